@@ -11,13 +11,13 @@ use lib.Dec.{T, ltb, eqb, lt→ltb, eqb→eq}
 use lib.ListN.{length, set, length-append, length-set, length-map}
 use Rattle.rules.specs.Lists.{if_then_else_, at, snoc, below, changed, has, strike}
 use Rattle.rules.specs.Transactions.{Write, Read, touched, touches}
-use Rattle.rules.specs.Frames.{Frame, submit, forward, shardAppend, execNotif, executed, response, decode}
 use Rattle.rules.specs.Outcomes.{Outcome, taken, refuse}
 use Rattle.rules.specs.Queue.{Queue, emptyQueue, enqueue, takeUpTo}
-use Rattle.rules.specs.Board.{Entry, Board, emptyBoard, start, writes, nextNumber, find, holding, raiseFloor, onQueues, newEntry, append, settle, onward, serveNew, serveHeld, serveFound, submitStep, forwardStep, heardFrom, execNotifStep, finished, executedStep, frameStep, readStep, step}
+use Rattle.rules.specs.Board.{Entry, Board, emptyBoard, start, writes, holding, raiseFloor, onQueues, newEntry, append, settle, serveNew, heardFrom, finished, step}
 use Rattle.rules.specs.Kept.{numbers, above, QueueRule, Kept}
-use Rattle.rules.proofs.Lists.{by, yes-of, nothing, at-lt, at-snoc-cases, at-set-cases, strike-sub, or-cases}
+use Rattle.rules.proofs.Lists.{by, nothing, at-lt, at-snoc-cases, at-set-cases, strike-sub, or-cases}
 use Rattle.rules.proofs.Queue.{take-kept, take-last, queued-kept}
+use Rattle.rules.proofs.Steps.{Deed, refused, held, new, heard, done, step-deed}
 
 -- ---- The writes of a log
 
@@ -99,80 +99,19 @@ settle-kept ind d e shards b k h w s r =
 
 -- ---- The steps
 
-abbrev K : Outcome Board → Type 0
-K o = Kept (o .state)
-
-refuse-kept : (number : ℕ) (b : Board) → Kept b → K (refuse number b)
-unfolding refuse
-refuse-kept number b k = k
-
-new-kept : (b : Board) (w : Write) (ack : ℕ) → Kept b → K (serveNew b w ack)
-unfolding serveNew taken
-new-kept b w ack k = append-kept w (raiseFloor (w .client) ack b) (raise-kept (w .client) ack b k)
-
-held-kept : (b : Board) (ind : ℕ) (w : Write) (ack : ℕ) (o : Option Entry) → Kept b → K (serveHeld b ind w ack o)
-unfolding serveHeld taken
-held-kept b ind w ack none k = refuse-kept 8 b k
-held-kept b ind w ack (some e) k = by K _ (λ t. refuse-kept 8 b k) (λ t. raise-kept (w .client) ack b k)
-
-found-kept : (b : Board) (w : Write) (ack : ℕ) (o : Option ℕ) → Kept b → K (serveFound b w ack o)
-unfolding serveFound
-found-kept b w ack none k = refuse-kept 8 b k
-found-kept b w ack (some ind) k = held-kept b ind w ack (at (b .log) ind) k
-
-submit-kept : (b : Board) (w : Write) (ack : ℕ) → Kept b → K (submitStep b w ack)
-unfolding submitStep
-submit-kept b w ack k =
-    by K _ (λ t. refuse-kept 3 b k) λ t.
-    by K _ (λ t. refuse-kept 4 b k) λ t.
-    by K _ (λ t. found-kept b w ack (find (w .client) (w .number) (writes (b .log))) k) λ t.
-    by K _ (λ t. refuse-kept 5 b k) λ t.
-    new-kept b w ack k
-
-forward-kept : (b : Board) (ind : ℕ) (w : Write) (ack : ℕ) → Kept b → K (forwardStep b ind w ack)
-unfolding forwardStep
-forward-kept b ind w ack k =
-    by K _ (λ t. refuse-kept 4 b k) λ t.
-    by K _ (λ t. held-kept b ind w ack (at (b .log) ind) k) λ t.
-    by K _ (λ t. refuse-kept 8 b k) λ t.
-    new-kept b w ack k
-
-notif-kept : (b : Board) (j ind : ℕ) (rs : List Read) (o : Option Entry) → at (b .log) ind ≡ o → Kept b → K (execNotifStep b j ind rs o)
-unfolding execNotifStep taken heardFrom
-notif-kept b j ind rs none h k = refuse-kept 6 b k
-notif-kept b j ind rs (some e) h k =
-    by K _ (λ t. refuse-kept 7 b k) λ t.
-    by K _ (λ u. refuse-kept 8 b k) λ u.
-    settle-kept ind e (heardFrom j rs e) (j ∷ []) b k h refl
-    (λ i x. or-cases (eqb i j) false x (λ y. let z : i ≡ j = eqb→eq i j y in rw z (k .remains ind e j h (yes-of (has j (e .remaining)) t))) (λ y. absurd y))
-    (λ i x. strike-sub i j (e .remaining) x)
-
-executed-kept : (b : Board) (ind : ℕ) (rs : List Read) (o : Option Entry) → at (b .log) ind ≡ o → Kept b → K (executedStep b ind rs o)
-unfolding executedStep taken finished
-executed-kept b ind rs none h k = refuse-kept 6 b k
-executed-kept b ind rs (some e) h k =
-    by K _ (λ t. refuse-kept 7 b k) λ t.
-    by K _ (λ t. refuse-kept 8 b k) λ t.
-    settle-kept ind e (finished rs e) (touched (b .m) (e .write .operations)) b k h refl (λ j x. x) (λ j x. absurd x)
-
-frame-kept : (b : Board) (f : Frame) → Kept b → K (frameStep b f)
-unfolding frameStep
-frame-kept b (submit w ack) k = by K _ (λ t. submit-kept b w ack k) (λ t. refuse-kept 2 b k)
-frame-kept b (forward ind w ack) k = by K _ (λ t. forward-kept b ind w ack k) (λ t. refuse-kept 2 b k)
-frame-kept b (shardAppend j ind sn xs) k = refuse-kept 2 b k
-frame-kept b (execNotif j ind rs) k = by K _ (λ t. notif-kept b j ind rs (at (b .log) ind) refl k) (λ t. refuse-kept 2 b k)
-frame-kept b (executed ind rs) k = by K _ (λ t. executed-kept b ind rs (at (b .log) ind) refl k) (λ t. refuse-kept 2 b k)
-frame-kept b (response client number rs) k = refuse-kept 2 b k
-
-read-kept : (b : Board) (o : Option Frame) → Kept b → K (readStep b o)
-unfolding readStep
-read-kept b none k = refuse-kept 1 b k
-read-kept b (some f) k = frame-kept b f k
+deed-kept : (b : Board) (o : Outcome Board) → Kept b → Deed b o → Kept (o .state)
+unfolding taken refuse serveNew heardFrom finished
+deed-kept b _ k (refused number) = k
+deed-kept b _ k (held ind ack e s a r) = raise-kept (e .write .client) ack b k
+deed-kept b _ k (new w ack s r n l) = append-kept w (raiseFloor (w .client) ack b) (raise-kept (w .client) ack b k)
+deed-kept b _ k (heard j ind rs e s a h t f) =
+    settle-kept ind e (heardFrom j rs e) (j ∷ []) b k a refl
+    (λ i x. or-cases (eqb i j) false x (λ y. let z : i ≡ j = eqb→eq i j y in rw z (k .remains ind e j a h)) (λ y. absurd y)) (λ i x. strike-sub i j (e .remaining) x)
+deed-kept b _ k (done ind rs e s a t f) = settle-kept ind e (finished rs e) (touched (b .m) (e .write .operations)) b k a refl (λ j x. x) (λ j x. absurd x)
 
 pub step-kept : (b : Board) (bytes : List ℕ) (out : ℕ) → Kept b → Kept (step b bytes out .state)
-unfolding step
-step-kept b bytes out k = by K _ (λ t. refuse-kept 11 b k) (λ t. read-kept b (decode bytes) k)
+step-kept b bytes out k = deed-kept b (step b bytes out) k (step-deed b bytes out)
 
 pub start-kept : (n m own : ℕ) → Kept (start n m own .state)
-unfolding start taken
-start-kept n m own = by K _ (λ t. empty-kept true n m own) (λ t. refuse-kept 11 (emptyBoard false 0 0 0) (empty-kept false 0 0 0))
+unfolding start taken refuse
+start-kept n m own = by (λ (o : Outcome Board). Kept (o .state)) _ (λ t. empty-kept true n m own) (λ t. unfold refuse in (empty-kept false 0 0 0))

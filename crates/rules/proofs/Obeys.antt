@@ -9,7 +9,7 @@ use Prim.Native.Nat.{ℕ, zero, suc, _+_, _*_, _≤_, _<_, min, max}
 use native.Mathlib.Omega.{arith}
 use lib.Dec.{T, leb, ltb, eqb, leb→le, le→leb, nleb→lt, nltb→le, ltb→lt, eqb→eq, eqb-refl, T-not}
 use lib.ListN.{length, set, length-append, length-set, length-map}
-use Rattle.rules.specs.Lists.{if_then_else_, within, at, snoc, every, same, changed, has, strike}
+use Rattle.rules.specs.Lists.{if_then_else_, within, at, snoc, isEmpty, every, same, changed, has, insert, strike}
 use Rattle.rules.specs.Transactions.{Operation, Write, Placed, Read, keyOf, shardOf, touched, touches, placed, keep, onShard, getPlaces, sameOperations, sameWrite}
 use Rattle.rules.specs.Frames.{Frame, submit, forward, shardAppend, execNotif, executed, response, okClient, okNumber, okInd, okSeen, rising, okOperations, okWrite, okPlaced, okReads, obeys, decode}
 use Rattle.rules.specs.Outcomes.{Outcome, taken, refuse, sentBytes}
@@ -19,22 +19,10 @@ use Rattle.rules.proofs.Lists.{by, yes-of, if-yes, and, and-l, and-r, o
 use Rattle.rules.proofs.Frames.{WriteRules, write-rules, Spells, decode-spells}
 use Rattle.rules.proofs.Sets.{strike-has, touched-every, touched-range, part-some}
 use Rattle.rules.proofs.Places.{places, operations-few, part-obeys, reads-obey, places-both, add-ok}
-use Rattle.rules.proofs.Room.{strike-ascends, touched-ascends, parts, parts-most, placed-length, encode-length, frame-room}
-use Rattle.rules.proofs.Kept.{at-writes, step-kept}
-
--- ---- How many entries touch a shard
-
-touching-most : (m j : ℕ) (ws : List Write) (q : ℕ) → touching m j ws q ≤ q
-touching-most m j ws zero = omega arith
-touching-most m j ws (suc q) = go (at ws q) (touching-most m j ws q)
-  where
-    go : (o : Option Write) → touching m j ws q ≤ q → oneMore m j o (touching m j ws q) ≤ suc q
-    go none h = omega arith
-    go (some w) h = by (λ (x : ℕ). x ≤ suc q) (touches m j (w .operations)) (λ t. omega arith) (λ t. omega arith)
-
-touching-one : (m j : ℕ) (ws : List Write) (q : ℕ) (w : Write) → at ws q ≡ some w → T (touches m j (w .operations)) → touching m j ws (suc q) ≡ suc (touching m j ws q)
-touching-one m j ws q w a t =
-    ap (λ o. oneMore m j o (touching m j ws q)) a ∙ if-yes (touches m j (w .operations)) (suc (touching m j ws q)) (touching m j ws q) t
+use Rattle.rules.proofs.Room.{Sent, silent, alone, strike-ascends, touched-ascends, parts, parts-most, placed-length, encode-length, frame-room}
+use Rattle.rules.proofs.Steps.{Deed, refused, held, new, heard, done, step-deed}
+use Rattle.rules.proofs.Kept.{at-writes}
+use Rattle.rules.proofs.Counts.{touching-most, touching-one}
 
 -- ---- The reads of an entry
 
@@ -52,6 +40,23 @@ all-left p (o ∷ os) =
     if-yes true (record { place = p; operation = o } ∷ keep (λ key. true) (placed (suc p) os)) (keep (λ key. true) (placed (suc p) os)) tt
     ∙ ap {B = List Placed} (λ l. record { place = p; operation = o } ∷ l) (all-left (suc p) os)
 
+-- a transaction touches a shard, so a new entry is PRE
+insert-some : (j : ℕ) (l : List ℕ) → false ≡ isEmpty (insert j l)
+insert-some j [] = refl
+insert-some j (i ∷ l) =
+    by (λ (k : List ℕ). false ≡ isEmpty k) (ltb j i) (λ t. refl) λ t.
+    by (λ (k : List ℕ). false ≡ isEmpty k) (eqb j i) (λ u. refl) (λ u. refl)
+
+some-touched : (m : ℕ) (os : List Operation) → T (okOperations os) → false ≡ isEmpty (touched m os)
+unfolding okOperations
+some-touched m [] t = absurd t
+some-touched m (o ∷ os) t = insert-some (shardOf m (keyOf o)) (touched m os)
+
+none-or-some : (none? : Bool) → isEXE (if none? then EXE else PRE) ≡ none?
+unfolding if_then_else_
+none-or-some true = refl
+none-or-some false = refl
+
 new-entry : (m : ℕ) (w : Write) (ack : ℕ) → WriteRules w ack → EntryKept m (newEntry m w)
 unfolding newEntry
 new-entry m w ack r =
@@ -61,6 +66,7 @@ new-entry m w ack r =
       operations = r .operations;
       places = ap getPlaces (sym (none-left m (touched m (w .operations)) 0 (w .operations) (touched-every m (w .operations))));
       values = tt;
+      status = some-touched m (w .operations) (r .operations);
       remaining = touched-ascends m (w .operations);
     }
 
@@ -77,6 +83,7 @@ finished-entry m rs e k t f =
       operations = k .operations;
       places = same-eq (places rs) (getPlaces (placed 0 (e .write .operations))) f ∙ ap getPlaces (sym (all-left 0 (e .write .operations)));
       values = reads-values rs t;
+      status = refl;
       remaining = tt;
     }
 
@@ -93,6 +100,7 @@ heard-entry m j rs e k h t f =
           (same-eq (places rs) (getPlaces (onShard m j (e .write .operations))) f) (k .places)
           ∙ ap (λ (ok : ℕ → Bool). getPlaces (keep ok (placed 0 (e .write .operations)))) (fun-ext both);
       values = add-ok rs (e .reads) (reads-values rs t) (k .values);
+      status = none-or-some (isEmpty (strike j (e .remaining)));
       remaining = strike-ascends 0 j (e .remaining) (k .remaining);
     }
   where
@@ -153,17 +161,6 @@ appends-obey b ind e (j ∷ js) k a l lo hi t =
     (append-obeys b ind e j k a l lo hi (t j (or-left (eqb j j) (has j js) (eqb-refl j))))
     (appends-obey b ind e js k a l lo hi (λ i h. t i (or-right (eqb i j) (has i js) h)))
 
--- what a step sends obeys the rules, and "no step sends more" than 68 bytes
-pub record Sent (fs : List Frame) : Type 0 where
-  pub rules : T (every obeys fs)
-  pub room : length (sentBytes fs) ≤ 68
-
-pub silent : Sent []
-silent = record { rules = tt; room = omega arith }
-
-pub alone : (f : Frame) → T (obeys f) → Sent (f ∷ [])
-alone f t = let l = frame-room f t in record { rules = and (obeys f) true t tt; room = rw length-append (omega arith) }
-
 -- "the worst: four shards, one operation each, 4 × 17 bytes"
 appends-room : (b : Board) (ind : ℕ) (w : Write) (js : List ℕ) → ((j : ℕ) → T (has j js) → T (touches (b .m) j (w .operations)))
     → length (sentBytes (map (shardAppendOf b ind w) js)) ≤ 17 * parts (b .m) js (placed 0 (w .operations))
@@ -197,10 +194,6 @@ onward-obeys b ind e k a l lo hi near t =
 pub record BoardGood (o : Outcome Board) : Type 0 where
   pub state : SizesKept (o .state)
   pub frames : Sent (o .frames)
-
-refuse-good : (number : ℕ) (b : Board) → SizesKept b → BoardGood (refuse number b)
-unfolding refuse
-refuse-good number b k = record { state = k; frames = silent }
 
 raised : (b : Board) (client ack : ℕ) → ack ≤ raiseFloor client ack b .floor client
 unfolding raiseFloor holding changed
@@ -237,9 +230,9 @@ at-snoc-new [] y = refl
 at-snoc-new (z ∷ l) y = at-snoc-new l y
 
 module _ (b : Board) (k : SizesKept b) (q : Kept b) where
-  new-good : (w : Write) (ack : ℕ) → 1 ≤ b .m → b .m ≤ 8 → WriteRules w ack → length (b .log) < 256 → BoardGood (serveNew b w ack)
+  new-good : (w : Write) (ack : ℕ) → T (b .started) → WriteRules w ack → length (b .log) < 256 → BoardGood (serveNew b w ack)
   unfolding serveNew taken
-  new-good w ack lo hi r l =
+  new-good w ack s r l =
       let n = new-entry (b .m) w ack r in
       let up = raised b (w .client) ack in
       let near : w .number ≤ raiseFloor (w .client) ack b .floor (w .client) + 7 = omega (arith, r .ack-high) in
@@ -247,106 +240,43 @@ module _ (b : Board) (k : SizesKept b) (q : Kept b) where
         state = append-sizes (raiseFloor (w .client) ack b) w (raise-sizes b (w .client) ack k) (unfold raiseFloor holding in n) (unfold raiseFloor holding in l);
         frames =
             onward-obeys (append w (raiseFloor (w .client) ack b)) (length (b .log)) (newEntry (b .m) w) (unfold append raiseFloor holding in n)
-            (unfold append raiseFloor holding in (at-snoc-new (b .log) (newEntry (b .m) w))) (omega arith) (unfold append raiseFloor holding in lo)
-            (unfold append raiseFloor holding in hi) (unfold append holding newEntry in near) (unfold append raiseFloor holding newEntry in (λ j t. t));
+            (unfold append raiseFloor holding in (at-snoc-new (b .log) (newEntry (b .m) w))) (omega arith) (unfold append raiseFloor holding in (k .setup s .0))
+            (unfold append raiseFloor holding in (k .setup s .1)) (unfold append holding newEntry in near) (unfold append raiseFloor holding newEntry in (λ j t. t));
       }
 
-  held-good : (ind : ℕ) (w : Write) (ack : ℕ) (o : Option Entry) → at (b .log) ind ≡ o → 1 ≤ b .m → b .m ≤ 8 → WriteRules w ack → BoardGood (serveHeld b ind w ack o)
-  unfolding serveHeld taken sameWrite
-  held-good ind w ack none a lo hi r = refuse-good 8 b k
-  held-good ind w ack (some e) a lo hi r =
-      by BoardGood _ (λ t. refuse-good 8 b k) λ t.
-      let s : T (eqb (e .write .client) (w .client) && eqb (e .write .number) (w .number) && sameOperations (e .write .operations) (w .operations)) = yes-of (sameWrite (e .write) w) t in
-      let s2 = and-l (eqb (e .write .client) (w .client) && eqb (e .write .number) (w .number)) (sameOperations (e .write .operations) (w .operations)) s in
-      let c : e .write .client ≡ w .client = eqb→eq (e .write .client) (w .client) (and-l (eqb (e .write .client) (w .client)) (eqb (e .write .number) (w .number)) s2) in
-      let n : e .write .number ≡ w .number = eqb→eq (e .write .number) (w .number) (and-r (eqb (e .write .client) (w .client)) (eqb (e .write .number) (w .number)) s2) in
-      let up = raised b (w .client) ack in
-      let near : w .number ≤ raiseFloor (w .client) ack b .floor (w .client) + 7 = omega (arith, r .ack-high) in
+  deed-good : (o : Outcome Board) → Deed b o → BoardGood o
+  unfolding taken refuse
+  deed-good _ (refused number) = record { state = k; frames = silent }
+  deed-good _ (held ind ack e s a r) =
+      let up = raised b (e .write .client) ack in
+      let near : e .write .number ≤ raiseFloor (e .write .client) ack b .floor (e .write .client) + 7 = omega (arith, r .ack-high) in
       let l = at-lt (b .log) ind e a in
       record {
-        state = raise-sizes b (w .client) ack k;
+        state = raise-sizes b (e .write .client) ack k;
         frames =
-            onward-obeys (raiseFloor (w .client) ack b) ind e (unfold raiseFloor holding in (k .entries ind e a)) (unfold raiseFloor holding in a) (omega (arith, k .size))
-            (unfold raiseFloor holding in lo) (unfold raiseFloor holding in hi) (rw (c, n) near) (unfold raiseFloor holding in (λ j t. q .remains ind e j a t));
+            onward-obeys (raiseFloor (e .write .client) ack b) ind e (unfold raiseFloor holding in (k .entries ind e a)) (unfold raiseFloor holding in a)
+            (omega (arith, k .size)) (unfold raiseFloor holding in (k .setup s .0)) (unfold raiseFloor holding in (k .setup s .1)) near
+            (unfold raiseFloor holding in (λ j t. q .remains ind e j a t));
       }
-
-  found-good : (w : Write) (ack : ℕ) (o : Option ℕ) → 1 ≤ b .m → b .m ≤ 8 → WriteRules w ack → BoardGood (serveFound b w ack o)
-  unfolding serveFound
-  found-good w ack none lo hi r = refuse-good 8 b k
-  found-good w ack (some ind) lo hi r = held-good ind w ack (at (b .log) ind) refl lo hi r
-
-  submit-good : (w : Write) (ack : ℕ) → 1 ≤ b .m → b .m ≤ 8 → WriteRules w ack → BoardGood (submitStep b w ack)
-  unfolding submitStep
-  submit-good w ack lo hi r =
-      by BoardGood _ (λ t. refuse-good 3 b k) λ t.
-      by BoardGood _ (λ t. refuse-good 4 b k) λ t.
-      by BoardGood _ (λ t. found-good w ack (find (w .client) (w .number) (writes (b .log))) lo hi r) λ t.
-      by BoardGood _ (λ t. refuse-good 5 b k) λ few.
-      new-good w ack lo hi r (nleb→lt 256 (length (b .log)) few)
-
-  forward-good : (ind : ℕ) (w : Write) (ack : ℕ) → 1 ≤ b .m → b .m ≤ 8 → ind ≤ 255 → WriteRules w ack → BoardGood (forwardStep b ind w ack)
-  unfolding forwardStep
-  forward-good ind w ack lo hi l r =
-      by BoardGood _ (λ t. refuse-good 4 b k) λ t.
-      by BoardGood _ (λ t. held-good ind w ack (at (b .log) ind) refl lo hi r) λ u.
-      by BoardGood _ (λ t. refuse-good 8 b k) λ v.
-      let x = nltb→le ind (length (b .log)) u in
-      new-good w ack lo hi r (omega arith)
-
-  notif-good : (j ind : ℕ) (rs : List Read) (o : Option Entry) → at (b .log) ind ≡ o → T (okReads rs) → BoardGood (execNotifStep b j ind rs o)
-  unfolding execNotifStep taken
-  notif-good j ind rs none a r = refuse-good 6 b k
-  notif-good j ind rs (some e) a r =
-      by BoardGood _ (λ t. refuse-good 7 b k) λ t.
-      by BoardGood _ (λ u. refuse-good 8 b k) λ u.
+  deed-good _ (new w ack s r n l) = new-good w ack s r l
+  deed-good _ (heard j ind rs e s a h t f) =
       let l = at-lt (b .log) ind e a in
-      let h = heard-entry (b .m) j rs e (k .entries ind e a) (yes-of (has j (e .remaining)) t) r (yes-of (fits rs (onShard (b .m) j (e .write .operations))) u) in
+      let x = heard-entry (b .m) j rs e (k .entries ind e a) h t f in
       record {
-        state = settle-sizes b ind (heardFrom j rs e) (j ∷ []) k h;
-        frames = by Sent _ (λ x. alone (backward b ind (heardFrom j rs e)) (backward-obeys b (b .m) ind (heardFrom j rs e) h (omega (arith, k .size)))) (λ x. silent);
+        state = settle-sizes b ind (heardFrom j rs e) (j ∷ []) k x;
+        frames = by Sent _ (λ y. alone (backward b ind (heardFrom j rs e)) (backward-obeys b (b .m) ind (heardFrom j rs e) x (omega (arith, k .size)))) (λ y. silent);
       }
-
-  executed-good : (ind : ℕ) (rs : List Read) (o : Option Entry) → at (b .log) ind ≡ o → T (okReads rs) → BoardGood (executedStep b ind rs o)
-  unfolding executedStep taken
-  executed-good ind rs none a r = refuse-good 6 b k
-  executed-good ind rs (some e) a r =
-      by BoardGood _ (λ t. refuse-good 7 b k) λ t.
-      by BoardGood _ (λ u. refuse-good 8 b k) λ u.
+  deed-good _ (done ind rs e s a t f) =
       let l = at-lt (b .log) ind e a in
-      let h = finished-entry (b .m) rs e (k .entries ind e a) r (yes-of (fits rs (placed 0 (e .write .operations))) u) in
+      let x = finished-entry (b .m) rs e (k .entries ind e a) t f in
       record {
-        state = settle-sizes b ind (finished rs e) (touched (b .m) (e .write .operations)) k h;
-        frames = alone (backward b ind (finished rs e)) (backward-obeys b (b .m) ind (finished rs e) h (omega (arith, k .size)));
+        state = settle-sizes b ind (finished rs e) (touched (b .m) (e .write .operations)) k x;
+        frames = alone (backward b ind (finished rs e)) (backward-obeys b (b .m) ind (finished rs e) x (omega (arith, k .size)));
       }
-
-  frame-good : (f : Frame) → 1 ≤ b .m → b .m ≤ 8 → T (obeys f) → BoardGood (frameStep b f)
-  unfolding frameStep obeys
-  frame-good (submit w ack) lo hi t = by BoardGood _ (λ u. submit-good w ack lo hi (write-rules w ack t)) (λ u. refuse-good 2 b k)
-  frame-good (forward ind w ack) lo hi t =
-      by BoardGood _ (λ u. forward-good ind w ack lo hi (leb→le ind 255 (and-l (okInd ind) (okWrite w ack) t)) (write-rules w ack (and-r (okInd ind) (okWrite w ack) t)))
-      (λ u. refuse-good 2 b k)
-  frame-good (shardAppend j ind sn xs) lo hi t = refuse-good 2 b k
-  frame-good (execNotif j ind rs) lo hi t =
-      by BoardGood _ (λ u. notif-good j ind rs (at (b .log) ind) refl (and-r (within 1 8 j && okInd ind) (okReads rs) t)) (λ u. refuse-good 2 b k)
-  frame-good (executed ind rs) lo hi t = by BoardGood _ (λ u. executed-good ind rs (at (b .log) ind) refl (and-r (okInd ind) (okReads rs) t)) (λ u. refuse-good 2 b k)
-  frame-good (response client number rs) lo hi t = refuse-good 2 b k
-
-  read-good : (o : Option Frame) → 1 ≤ b .m → b .m ≤ 8 → ((f : Frame) → o ≡ some f → T (obeys f)) → BoardGood (readStep b o)
-  unfolding readStep
-  read-good none lo hi t = refuse-good 1 b k
-  read-good (some f) lo hi t = frame-good f lo hi (t f refl)
 
   -- whatever arrives: the sizes stay, and each frame sent obeys the rules
   pub step-good : (bytes : List ℕ) (out : ℕ) → BoardGood (step b bytes out)
-  unfolding step
-  step-good bytes out =
-      by BoardGood _ (λ t. refuse-good 11 b k) λ t.
-      let s = k .setup (ready (b .started) (ltb out 68) t) in
-      read-good (decode bytes) (s .0) (s .1) (λ f e. decode-spells bytes f e .rules)
-    where
-      ready : (a c : Bool) → T (not (not a || c)) → T a
-      ready true c t = tt
-      ready false c t = absurd t
+  step-good bytes out = deed-good (step b bytes out) (step-deed b bytes out)
 
 pub start-good : (n m own : ℕ) → SizesKept (start n m own .state)
 unfolding start taken emptyBoard

@@ -7,13 +7,15 @@ use mathlib.Core.Option.{Option, none, some}
 use Prim.Native.Nat.{ℕ, zero, suc, _+_, _≤_, _<_}
 use native.Mathlib.Omega.{arith}
 use lib.Dec.{T, leb, ltb, eqb, leb→le, le→leb, nleb→lt, eqb→eq}
-use Rattle.rules.specs.Lists.{if_then_else_, snoc, every}
+use lib.ListN.{length}
+use Rattle.rules.specs.Lists.{if_then_else_, at, snoc, every}
 use Rattle.rules.specs.Transactions.{Operation, Write, Read, placed}
 use Rattle.rules.specs.Frames.{Frame, submit, forward, shardAppend, execNotif, executed, response, okClient, okNumber, okOperations, okWrite, obeys, decode}
-use Rattle.rules.specs.Outcomes.{Outcome, taken, refuse}
+use Rattle.rules.specs.Outcomes.{Outcome, taken, refuse, sentBytes, leastOut}
 use Rattle.rules.specs.Session.{Outstanding, Window, emptyWindow, firstOf, smallest, invoked, without, answered, operationsOf, Session, start, withWindow, submitOf, Asked, allMeant, invokeStep, invoke, sendAgain, retry, Reply, decline, handOver, frameStep, readStep, step}
 use Rattle.rules.specs.Kept.{Rise, WindowKept, SessionKept}
 use Rattle.rules.proofs.Lists.{by, yes-of, and, nothing}
+use Rattle.rules.proofs.Room.{Sent, alone}
 
 -- ---- The list of outstanding numbers
 
@@ -85,6 +87,34 @@ answered-kept w number k =
     let f = first-range (firstOf (w .outstanding) (w .next)) (without number (w .outstanding)) (w .next) r in
     record { rise = rise-without 0 number (w .outstanding) (w .next) (k .rise); window = omega (arith, k .window, f .0); numbers = k .numbers }
 
+-- "ack is the smallest outstanding number, its own included": it is an outstanding number, and no outstanding number is below it
+pub record Least (w : Window) : Type 0 where
+  pub first : Outstanding
+  pub there : at (w .outstanding) 0 ≡ some first
+  pub smallest-is : smallest w ≡ first .number
+  pub least : (p : ℕ) (o : Outstanding) → at (w .outstanding) p ≡ some o → smallest w ≤ o .number
+
+at-range : (low : ℕ) (os : List Outstanding) (next p : ℕ) (o : Outstanding) → Rise low os next → at os p ≡ some o → low ≤ o .number
+at-range low [] next p o r e = nothing e
+at-range low (x ∷ os) next zero o r e = let d : x ≡ o = cc in rw (← d) (r .0)
+at-range low (x ∷ os) next (suc p) o r e = let h = at-range (suc x.number) os next p o (r .2) e in omega (arith, r .0)
+
+cons-least : (x : Outstanding) (os : List Outstanding) (next : ℕ) → Rise 0 (x ∷ os) next → Least (record { next = next; outstanding = x ∷ os })
+unfolding smallest
+cons-least x os next r =
+    record { first = x; there = refl; smallest-is = refl; least = λ p o e. at-range x.number (x ∷ os) next p o (rise-first 0 (x ∷ os) next r) e }
+
+pub invoked-least : (w : Window) (xs : List Operation) → WindowKept w → T (okOperations xs) → Least (invoked xs w)
+unfolding invoked
+invoked-least w xs k t = go (w .outstanding) (rise-snoc 0 (w .outstanding) (w .next) xs (k .rise) t)
+  where
+    own : Outstanding
+    own = record { number = w .next; operations = xs }
+
+    go : (os : List Outstanding) → Rise 0 (snoc os own) (suc (w .next)) → Least (record { next = suc (w .next); outstanding = snoc os own })
+    go [] r = cons-least own [] (suc (w .next)) r
+    go (x ∷ os) r = cons-least x (snoc os own) (suc (w .next)) r
+
 -- ---- Submits
 
 submit-obeys : (s : Session) (number : ℕ) (xs : List Operation) → s .client ≤ 15 → number ≤ 65534 → smallest (s .window) ≤ number → number ≤ smallest (s .window) + 7
@@ -102,10 +132,12 @@ submit-obeys s number xs c n l h t =
 pub record SessionGood (o : Outcome Session) : Type 0 where
   pub state : SessionKept (o .state)
   pub frames : T (every obeys (o .frames))
+  -- "no step sends more" than 68 bytes
+  pub room : length (sentBytes (o .frames)) ≤ leastOut
 
 refuse-good : (number : ℕ) (s : Session) → SessionKept s → SessionGood (refuse number s)
 unfolding refuse
-refuse-good number s k = record { state = k; frames = tt }
+refuse-good number s k = record { state = k; frames = tt; room = omega arith }
 
 pub start-good : (client : ℕ) → SessionKept (start client .state)
 unfolding start taken refuse smallest
@@ -129,12 +161,9 @@ meant-good s (some xs) k =
     let f = first-range 0 (s .window .outstanding) (s .window .next) (k .window .rise) in
     let low : smallest (s .window) ≤ s .window .next = unfold smallest in (f .1) in
     let e : smallest (invoked xs (s .window)) ≡ smallest (s .window) = unfold invoked smallest in (first-snoc (s .window .outstanding) (s .window .next) xs) in
-    record {
-      state = record { client = k .client; window = invoked-kept (s .window) xs (k .window) t l h };
-      frames =
-          and (obeys (submitOf (withWindow (invoked xs (s .window)) s) (s .window .next) xs)) true
-          (submit-obeys (withWindow (invoked xs (s .window)) s) (s .window .next) xs (k .client) small (rw e low) (rw e near) t) tt;
-    }
+    let sent = alone (submitOf (withWindow (invoked xs (s .window)) s) (s .window .next) xs)
+    (submit-obeys (withWindow (invoked xs (s .window)) s) (s .window .next) xs (k .client) small (rw e low) (rw e near) t) in
+    record { state = record { client = k .client; window = invoked-kept (s .window) xs (k .window) t l h }; frames = sent .rules; room = sent .room }
 
 pub invoke-good : (s : Session) (asked : List Asked) (out : ℕ) → SessionKept s → SessionGood (invoke s asked out)
 unfolding invoke
@@ -145,12 +174,9 @@ unfolding sendAgain taken
 again-good s number none e k = refuse-good 7 s k
 again-good s number (some xs) e k =
     let w = kept-waits 0 number (s .window .outstanding) (s .window .next) xs (k .window .rise) e in
-    record {
-      state = k;
-      frames =
-          and (obeys (submitOf s number xs)) true
-          (submit-obeys s number xs (k .client) (omega (arith, w .less, k .window .numbers)) (unfold smallest in (w .least)) (omega (arith, w .less, k .window .window)) (w .ok)) tt;
-    }
+    let sent = alone (submitOf s number xs)
+    (submit-obeys s number xs (k .client) (omega (arith, w .less, k .window .numbers)) (unfold smallest in (w .least)) (omega (arith, w .less, k .window .window)) (w .ok)) in
+    record { state = k; frames = sent .rules; room = sent .room }
 
 pub retry-good : (s : Session) (number out : ℕ) → SessionKept s → SessionGood (retry s number out)
 unfolding retry

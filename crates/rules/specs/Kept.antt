@@ -1,17 +1,17 @@
--- What 01 says of a board and of a session "at every moment".
+-- What holds at every moment: every start gives it and every step keeps it (proofs/: Kept, Numbers, Obeys, Shard, Session).
 -- Assumes nothing.
 use mathlib.Core.Path.{_≡_}
 use mathlib.Core.Bool.{Bool, true, false, not}
 use mathlib.Core.List.{List, [], _∷_, map}
 use mathlib.Core.Option.{Option, none, some}
-use Prim.Native.Nat.{ℕ, suc, _+_, _≤_, _<_}
+use Prim.Native.Nat.{ℕ, suc, pred, _+_, _≤_, _<_}
 use lib.Dec.{T}
 use lib.ListN.{length}
-use Rattle.rules.specs.Lists.{if_then_else_, at, every, below, has}
+use Rattle.rules.specs.Lists.{if_then_else_, _=?_, at, isEmpty, every, below, has}
 use Rattle.rules.specs.Transactions.{Write, Read, shardOf, touches, placed, keep, getPlaces, valueOf}
 use Rattle.rules.specs.Frames.{okOperations, okSeen}
 use Rattle.rules.specs.Queue.{Queue}
-use Rattle.rules.specs.Board.{Entry, Board, writes}
+use Rattle.rules.specs.Board.{Entry, Board, isEXE, writes, nextNumber}
 use Rattle.rules.specs.Shard.{Shard}
 use Rattle.rules.specs.Session.{Outstanding, Window, Session, smallest}
 
@@ -29,6 +29,11 @@ above last (x ∷ xs) = if below last x then x ∷ above last xs else above last
 -- Other than 004, Figure 1, item 2, which says: exactly the PRE entries. That is false when answers arrive out of order.
 abbrev pub QueueRule : ℕ → ℕ → List Write → Queue → Type 0
 QueueRule m j ws q = q.waiting ≡ above q.lastTaken (numbers m j 0 ws)
+
+-- those that are not, which were taken
+abbrev pub upTo : Option ℕ → List ℕ → List ℕ
+upTo last [] = []
+upTo last (x ∷ xs) = if below last x then upTo last xs else x ∷ upTo last xs
 
 pub record Kept (b : Board) : Type 0 where
   pub queues : (j : ℕ) → QueueRule (b .m) j (writes (b .log)) (b .queue j)
@@ -48,6 +53,8 @@ pub record EntryKept (m : ℕ) (e : Entry) : Type 0 where
   pub operations : T (okOperations (e .write .operations))
   pub places : map (λ (r : Read). r .place) (e .reads) ≡ getPlaces (keep (λ key. not (has (shardOf m key) (e .remaining))) (placed 0 (e .write .operations)))
   pub values : T (every (λ r. okSeen (r .value)) (e .reads))
+  -- "When none remains: EXE", and only then
+  pub status : isEXE (e .status) ≡ isEmpty (e .remaining)
   pub remaining : Ascending 0 (e .remaining)
 
 -- "a log holds at most 256 entries"
@@ -55,6 +62,22 @@ pub record SizesKept (b : Board) : Type 0 where
   pub setup : T (b .started) → (1 ≤ b .m) × (b .m ≤ 8)
   pub size : length (b .log) ≤ 256
   pub entries : (ind : ℕ) (e : Entry) → at (b .log) ind ≡ some e → EntryKept (b .m) e
+
+-- a client's entries
+abbrev pub ofClient : ℕ → List Write → List Write
+ofClient c [] = []
+ofClient c (w ∷ ws) = if w.client =? c then w ∷ ofClient c ws else ofClient c ws
+
+-- numbered one by one, from k on
+abbrev pub Counted : ℕ → List Write → Type 0
+Counted k [] = Unit {0}
+Counted k (w ∷ ws) = (w.number ≡ k) × Counted (suc k) ws
+
+pub record NumbersKept (b : Board) : Type 0 where
+  -- the numbers of a client in the log are 0, 1, 2, .., high, in this order, each once
+  pub counted : (c : ℕ) → Counted 0 (ofClient c (writes (b .log)))
+  -- the floor is at most high, or 0
+  pub floors : (c : ℕ) → b .floor c ≤ pred (nextNumber c (writes (b .log)))
 
 pub record ShardKept (s : Shard) : Type 0 where
   pub setup : T (s .started) → (1 ≤ s .own) × (s .own ≤ 8)

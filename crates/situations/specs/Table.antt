@@ -115,36 +115,36 @@ table =
     ∷ atBoard "C" 2 1 1 ((encode (submit (write 1) 0) gives 4 and []) ∷ []) [] (queue [] none)
     -- A at a fresh head twice: 0 and Forward both times, log length 1
     ∷ atBoard "D" 2 1 1
-      ((bytesA gives 0 and one (forward 0 (write 0) 0))
-      ∷ (bytesA gives 0 and one (forward 0 (write 0) 0)) ∷ [])
-      (PRE ∷ []) (queue (0 ∷ []) none)
+    ((bytesA gives 0 and one (forward 0 (write 0) 0))
+    ∷ (bytesA gives 0 and one (forward 0 (write 0) 0)) ∷ [])
+    (PRE ∷ []) (queue (0 ∷ []) none)
     -- sn 2 at a fresh shard: 4. sn 1 twice: 0, then 7
     ∷ atShard "E" 1 1
-      ((encode (sub 0 2) gives 4 and [])
-      ∷ (encode (sub 0 1) gives 0 and one (execNotif 1 0 []))
-      ∷ (encode (sub 0 1) gives 7 and []) ∷ [])
+    ((encode (sub 0 2) gives 4 and [])
+    ∷ (encode (sub 0 1) gives 0 and one (execNotif 1 0 []))
+    ∷ (encode (sub 0 1) gives 7 and []) ∷ [])
     -- ExecNotif 2 first: queue empty, entry 2 EXE, 0 and 1 PRE. Then ExecNotif 0: taken, last taken stays 2
     ∷ atBoard "F" 2 1 2 (threeEntries ++ ((encode (execNotif 1 2 []) gives 0 and one (executed 2 [])) ∷ []))
-      (PRE ∷ PRE ∷ EXE ∷ []) (queue [] (some 2))
+    (PRE ∷ PRE ∷ EXE ∷ []) (queue [] (some 2))
     ∷ atBoard "F, then" 2 1 2
-      (threeEntries ++ ((encode (execNotif 1 2 []) gives 0 and one (executed 2 [])) ∷ (encode (execNotif 1 0 []) gives 0 and one (executed 0 [])) ∷ []))
-      (EXE ∷ PRE ∷ EXE ∷ []) (queue [] (some 2))
+    (threeEntries ++ ((encode (execNotif 1 2 []) gives 0 and one (executed 2 [])) ∷ (encode (execNotif 1 0 []) gives 0 and one (executed 0 [])) ∷ []))
+    (EXE ∷ PRE ∷ EXE ∷ []) (queue [] (some 2))
     -- put key 5 value 7, get key 5: one read, place 1, present, 7
     ∷ atShard "G" 1 1
-      ((encode (shardAppend 1 0 1 (record { place = 0; operation = put 5 7 } ∷ record { place = 1; operation = get 5 } ∷ []))
-      gives 0 and one (execNotif 1 0 (record { place = 1; value = some 7 } ∷ []))) ∷ [])
+    ((encode (shardAppend 1 0 1 (record { place = 0; operation = put 5 7 } ∷ record { place = 1; operation = get 5 } ∷ []))
+    gives 0 and one (execNotif 1 0 (record { place = 1; value = some 7 } ∷ []))) ∷ [])
     -- numbers 0..7 invoked, 1..7 answered: invoke gives 9. Then 0 answered: number 8 goes out with ack 8
     ∷ atSession "H" 3
-      ((asks gives 0 and one (submit (write 0) 0)) ∷ (asks gives 0 and one (submit (write 1) 0)) ∷ (asks gives 0 and one (submit (write 2) 0))
-      ∷ (asks gives 0 and one (submit (write 3) 0)) ∷ (asks gives 0 and one (submit (write 4) 0)) ∷ (asks gives 0 and one (submit (write 5) 0))
-      ∷ (asks gives 0 and one (submit (write 6) 0)) ∷ (asks gives 0 and one (submit (write 7) 0))
-      ∷ (reply 1 gives 0 and []) ∷ (reply 2 gives 0 and []) ∷ (reply 3 gives 0 and []) ∷ (reply 4 gives 0 and [])
-      ∷ (reply 5 gives 0 and []) ∷ (reply 6 gives 0 and []) ∷ (reply 7 gives 0 and [])
-      ∷ (asks gives 9 and []) ∷ (reply 0 gives 0 and []) ∷ (asks gives 0 and one (submit (write 8) 8)) ∷ [])
+    ((asks gives 0 and one (submit (write 0) 0)) ∷ (asks gives 0 and one (submit (write 1) 0)) ∷ (asks gives 0 and one (submit (write 2) 0))
+    ∷ (asks gives 0 and one (submit (write 3) 0)) ∷ (asks gives 0 and one (submit (write 4) 0)) ∷ (asks gives 0 and one (submit (write 5) 0))
+    ∷ (asks gives 0 and one (submit (write 6) 0)) ∷ (asks gives 0 and one (submit (write 7) 0))
+    ∷ (reply 1 gives 0 and []) ∷ (reply 2 gives 0 and []) ∷ (reply 3 gives 0 and []) ∷ (reply 4 gives 0 and [])
+    ∷ (reply 5 gives 0 and []) ∷ (reply 6 gives 0 and []) ∷ (reply 7 gives 0 and [])
+    ∷ (asks gives 9 and []) ∷ (reply 0 gives 0 and []) ∷ (asks gives 0 and one (submit (write 8) 8)) ∷ [])
     -- Executed twice for one entry: 0, then 7
     ∷ atBoard "I" 2 1 1
-      ((bytesA gives 0 and one (forward 0 (write 0) 0))
-      ∷ (encode (executed 0 []) gives 0 and one (response 3 0 []))
-      ∷ (encode (executed 0 []) gives 7 and []) ∷ [])
-      (EXE ∷ []) (queue [] (some 0))
+    ((bytesA gives 0 and one (forward 0 (write 0) 0))
+    ∷ (encode (executed 0 []) gives 0 and one (response 3 0 []))
+    ∷ (encode (executed 0 []) gives 7 and []) ∷ [])
+    (EXE ∷ []) (queue [] (some 0))
     ∷ []
