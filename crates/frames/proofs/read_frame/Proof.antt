@@ -1,0 +1,17 @@
+use borrow.Author.Tests.{eq-eqb, ne-eqb}
+use Rattle.rules.specs.Lists.{if_then_else_}
+use Rattle.frames.specs.Frames.{readFrame}
+use borrow.Author.Needs.{needs}
+use Rattle.frames.proofs.read_frame.Statement.{statement}
+use Rattle.frames.proofs.read_frame.Tie as tie
+
+returns : tie.Need-returns
+unfolding readFrame if_then_else_
+returns c = simp (← c .before .before .before .read-front .ensures, eq-eqb _ _ (c .if1 .taken))
+
+returns-2 : tie.Need-returns-2
+unfolding readFrame if_then_else_
+returns-2 c = simp (c .bad-frame .ensures, ← c .before .before .before .before .read-front .ensures, ne-eqb _ _ (c .before .if1 .left))
+
+pub read-frame-spec : {M : Type 1} → statement M
+read-frame-spec = tie.close (tie.spec (λ c κs. search needs) (λ c κs. search needs) returns returns-2)
