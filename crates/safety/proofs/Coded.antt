@@ -1,154 +1,186 @@
--- A run of a register made of code is, by what its states mean, a run of the rules: so demand 3 holds of it.
+-- A run of code that keeps its promises is, by what its states mean, a run of the rules; so demand 3 holds of the code's own step functions, and
+-- so does whatever else is shown of every run.
 -- Assumes nothing.
 use mathlib.Core.Path.{_≡_, refl, ap, _∙_, fun-ext}
-use mathlib.Core.List.{List, [], _∷_}
+use mathlib.Core.List.{List, [], _∷_, map}
 use mathlib.Core.Option.{Option, none, some}
 use Prim.Native.Nat.{ℕ}
-use Rattle.rules.specs.Lists.{at}
+use lib.Dec.{T}
+use lib.ListN.{length}
+use Rattle.rules.specs.Lists.{at, every}
 use Rattle.rules.specs.Transactions.{Operation}
-use Rattle.rules.specs.Outcomes.{Outcome}
+use Rattle.rules.specs.Frames.{Frame, obeys}
+use Rattle.rules.specs.Outcomes.{Outcome, frameCount, outAfter}
 use Rattle.rules.specs.Board as B
 use Rattle.rules.specs.Shard as S
 use Rattle.rules.specs.Session as C
-use Rattle.safety.specs.World.{World, Address, board, shard, client, Packet, Choice, invoke, retry, deliver}
-use Rattle.safety.specs.World as W
-use Rattle.safety.specs.Claim.{Safe}
-use Rattle.safety.specs.Coded.{Replied, Agents, viewOutcome, viewReply, Means, Register, meant, start, atBoard, atShard, asked, atClient, arrive, arriveAny, next, run}
-use Rattle.safety.proofs.Lists.{changed-all, changed-map}
-use Rattle.safety.proofs.Safety.{safe}
+use Rattle.rules.proofs.Obeys as O
+use Rattle.rules.proofs.Shard as SP
+use Rattle.rules.proofs.Session as CP
+use Rattle.safety.specs.World.{Replied, Address, board, shard, client, Packet, rules, World, Choice, invoke, retry, deliver, remembered, start, afterBoard, afterShard, afterCall, afterReply, arrive, arriveSent, next, after, run}
+use Rattle.safety.specs.OutArea.{framesIn}
+use Rattle.safety.specs.Coded.{Stepped, Code, readOff, agents, Bytes, Meant, MeantReply, Promises, meaning, Demand3Of}
+use Rattle.safety.proofs.Lists.{changed-all, changed-map, all-at}
+use Rattle.safety.proofs.OutArea.{frames-in}
+use Rattle.safety.proofs.Bytes.{encode-bytes}
+use Rattle.safety.proofs.Flight.{Flies}
+use Rattle.safety.proofs.Happens.{happens}
+use Rattle.safety.proofs.Invariant.{RightTo, logsOf}
+use Rattle.safety.proofs.Known.{entriesOf, Known}
+use Rattle.safety.proofs.Lasts.{known-lasts}
+use Rattle.safety.proofs.Safety.{known-starts, safe}
 
-module _ (a : Agents) (v : Means a) where
-  record Held (w : Register a) : Type 0 where
-    boards : (i : ℕ) → v .HeldBoard (w .boards i)
-    shards : (j : ℕ) → v .HeldShard (w .shards j)
-    sessions : (c : ℕ) → v .HeldSession (w .sessions c)
+-- ---- One step, read off its out area, is the rules' step
 
-  board-meant : (n : ℕ) (w : Register a) (i : ℕ) (o : Outcome (a .Board)) → meant a v (atBoard a n w i o) ≡ W.atBoard n (meant a v w) i (viewOutcome (v .viewBoard) o)
-  unfolding meant atBoard W.atBoard viewOutcome
-  board-meant n w i o = rw (changed-map (v .viewBoard) (w .boards) i (o .state)) refl
+viewed : {State Rule : Type 0} → (State → Rule) → Outcome State → Outcome Rule
+viewed view o = record { answer = o .answer; state = view (o .state); frames = o .frames }
 
-  shard-meant : (n : ℕ) (w : Register a) (j : ℕ) (o : Outcome (a .Shard)) → meant a v (atShard a n w j o) ≡ W.atShard n (meant a v w) j (viewOutcome (v .viewShard) o)
-  unfolding meant atShard W.atShard viewOutcome
-  shard-meant n w j o = rw (changed-map (v .viewShard) (w .shards) j (o .state)) refl
+read-meant : {State Rule : Type 0} (Held : State → Type 0) (view : State → Rule) (out : List ℕ) (g : Stepped State) (o : Outcome Rule) → Meant Held view out g o
+    → T (every obeys (o .frames)) → viewed view (readOff g) ≡ o
+unfolding viewed readOff
+read-meant Held view out g o m ok =
+    let fs : framesIn (g .frames) (g .out) ≡ o .frames = rw (m .frames, m .written) (frames-in (o .frames) out ok) in
+    λ i. record { answer = m .answer i; state = m .state i; frames = fs i }
 
-  asked-meant : (n : ℕ) (w : Register a) (c : ℕ) (h : List (List Operation)) (o : Outcome (a .Session))
-      → meant a v (asked a n w c h o) ≡ W.asked n (meant a v w) c h (viewOutcome (v .viewSession) o)
-  unfolding meant asked W.asked viewOutcome
-  asked-meant n w c h o = rw (changed-map (v .viewSession) (w .sessions) c (o .state)) refl
+module _ (code : Code) (p : Promises code) where
+  pub record Held (w : World (agents code)) : Type 0 where
+    pub boards : (i : ℕ) → p .HeldBoard (w .boards i)
+    pub shards : (j : ℕ) → p .HeldShard (w .shards j)
+    pub sessions : (c : ℕ) → p .HeldSession (w .sessions c)
 
-  client-meant : (w : Register a) (c : ℕ) (r : Replied (a .Session)) → meant a v (atClient a w c r) ≡ W.atClient (meant a v w) c (viewReply (v .viewSession) r)
-  unfolding meant atClient W.atClient viewReply
-  client-meant w c r = rw (changed-map (v .viewSession) (w .sessions) c (r .session)) refl
+  -- a world of the code that is held and means a world of the rules
+  pub record Follows (w : World (agents code)) (v : World rules) : Type 0 where
+    pub held : Held w
+    pub means : meaning code p w ≡ v
 
-  -- a step, held and meant
-  record Steps (w : Register a) (x : World) : Type 0 where
-    held : Held w
-    means : meant a v w ≡ x
+  -- ---- What each step does to the world
 
-  arrive-steps : (n : ℕ) (w : Register a) (to : Address) (bytes : List ℕ) (out : ℕ) → Held w → Steps (arrive a n w to bytes out) (W.arrive n (meant a v w) to bytes out)
-  unfolding arrive W.arrive
-  arrive-steps n w (board i) bytes out h =
-      let s = v .boardSteps (w .boards i) bytes out (h .boards i) in
+  board-meant : (n : ℕ) (w : World (agents code)) (i : ℕ) (o : Outcome (code .Board))
+      → meaning code p (afterBoard (agents code) n w i o) ≡ afterBoard rules n (meaning code p w) i (viewed (p .viewBoard) o)
+  unfolding meaning afterBoard viewed
+  board-meant n w i o = rw (changed-map (p .viewBoard) (w .boards) i (o .state)) refl
+
+  shard-meant : (n : ℕ) (w : World (agents code)) (j : ℕ) (o : Outcome (code .Shard))
+      → meaning code p (afterShard (agents code) n w j o) ≡ afterShard rules n (meaning code p w) j (viewed (p .viewShard) o)
+  unfolding meaning afterShard viewed
+  shard-meant n w j o = rw (changed-map (p .viewShard) (w .shards) j (o .state)) refl
+
+  call-meant : (n : ℕ) (w : World (agents code)) (c : ℕ) (history : List (List Operation)) (o : Outcome (code .Session))
+      → meaning code p (afterCall (agents code) n w c history o) ≡ afterCall rules n (meaning code p w) c history (viewed (p .viewSession) o)
+  unfolding meaning afterCall viewed
+  call-meant n w c history o = rw (changed-map (p .viewSession) (w .sessions) c (o .state)) refl
+
+  seen : Replied (code .Session) → Replied C.Session
+  seen r = record { answer = r .answer; session = p .viewSession (r .session); number = r .number; reads = r .reads }
+
+  reply-meant : (w : World (agents code)) (c : ℕ) (r : Replied (code .Session)) → meaning code p (afterReply (agents code) w c r) ≡ afterReply rules (meaning code p w) c (seen r)
+  unfolding meaning afterReply seen
+  reply-meant w c r = rw (changed-map (p .viewSession) (w .sessions) c (r .session)) refl
+
+  -- ---- What is chosen, and what follows
+
+  pub meantChoice : Choice (agents code) → Choice rules
+  meantChoice (invoke c request out) = invoke c (code .asks request) out
+  meantChoice (retry c number out) = retry c number out
+  meantChoice (deliver which out) = deliver which out
+
+  module _ (n m : ℕ) (w : World (agents code)) (h : Held w) (k : Known n m (meaning code p w)) where
+    call-follows : (c : ℕ) (history : List (List Operation)) (out : List ℕ) (g : Stepped (code .Session)) (o : Outcome C.Session)
+        → Meant (p .HeldSession) (p .viewSession) out g o → T (every obeys (o .frames))
+        → Follows (afterCall (agents code) n w c history (readOff g)) (afterCall rules n (meaning code p w) c history o)
+    call-follows c history out g o x ok =
+        record {
+          held = unfold afterCall readOff in
+              (record { boards = h .boards; shards = h .shards; sessions = changed-all (λ d s. p .HeldSession s) (w .sessions) c (g .state) (x .held) (h .sessions) });
+          means = call-meant n w c history (readOff g) ∙ ap (afterCall rules n (meaning code p w) c history) (read-meant (p .HeldSession) (p .viewSession) out g o x ok);
+        }
+
+    arrive-follows : (to : Address) (bytes out : List ℕ) → Bytes bytes → Follows (arrive (agents code) n w to bytes out) (arrive rules n (meaning code p w) to bytes out)
+    unfolding arrive meaning
+    arrive-follows (board i) bytes out small =
+        let g = code .stepBoard (w .boards i) bytes out in
+        let x = p .boardSteps (w .boards i) bytes out (h .boards i) small in
+        let z = k .boards i in
+        let ok = O.step-good (p .viewBoard (w .boards i)) (z .sizes) (z .queues) bytes (length out) .frames .rules in
+        record {
+          held = unfold afterBoard readOff in
+              (record { boards = changed-all (λ j b. p .HeldBoard b) (w .boards) i (g .state) (x .held) (h .boards); shards = h .shards; sessions = h .sessions });
+          means = board-meant n w i (readOff g)
+              ∙ ap (afterBoard rules n (meaning code p w) i) (read-meant (p .HeldBoard) (p .viewBoard) out g _ x ok);
+        }
+    arrive-follows (shard j) bytes out small =
+        let g = code .stepShard (w .shards j) bytes out in
+        let x = p .shardSteps (w .shards j) bytes out (h .shards j) small in
+        let ok = SP.step-good (p .viewShard (w .shards j)) (k .shards j .sizes) bytes (length out) .frames in
+        record {
+          held = unfold afterShard readOff in
+              (record { boards = h .boards; shards = changed-all (λ i s. p .HeldShard s) (w .shards) j (g .state) (x .held) (h .shards); sessions = h .sessions });
+          means = shard-meant n w j (readOff g)
+              ∙ ap (afterShard rules n (meaning code p w) j) (read-meant (p .HeldShard) (p .viewShard) out g _ x ok);
+        }
+    arrive-follows (client c) bytes out small =
+        let g = code .respond (w .sessions c) bytes in
+        let x = p .responds (w .sessions c) bytes (h .sessions c) small in
+        let e : seen g ≡ rules .respond (p .viewSession (w .sessions c)) bytes =
+        unfold seen in (λ i. record { answer = x .answer i; session = x .session i; number = x .number i; reads = x .reads i }) in
+        record {
+          held = unfold afterReply in
+              (record { boards = h .boards; shards = h .shards; sessions = changed-all (λ d s. p .HeldSession s) (w .sessions) c (g .session) (x .held) (h .sessions) });
+          means = reply-meant w c g ∙ ap (afterReply rules (meaning code p w) c) e;
+        }
+
+    -- what was sent is a frame's bytes
+    sent-follows : (o : Option Packet) (out : List ℕ) → ((q : Packet) → o ≡ some q → Bytes (q .bytes)) → Follows (arriveSent (agents code) n w o out) (arriveSent rules n (meaning code p w) o out)
+    unfolding arriveSent
+    sent-follows none out small = record { held = h; means = refl }
+    sent-follows (some q) out small = arrive-follows (q .to) (q .bytes) out (small q refl)
+
+    next-follows : (x : Choice (agents code)) → Follows (next (agents code) n w x) (next rules n (meaning code p w) (meantChoice x))
+    unfolding next meantChoice meaning
+    next-follows (invoke c request out) =
+        call-follows c (remembered (w .invoked c) (C.allMeant (code .asks request))) out (code .invoke (w .sessions c) request out) _ (p .invokes (w .sessions c) request out (h .sessions c))
+        (CP.invoke-good (p .viewSession (w .sessions c)) (code .asks request) (length out) (k .sessions c .window) .frames)
+    next-follows (retry c number out) =
+        call-follows c (w .invoked c) out (code .retry (w .sessions c) number out) _ (p .retries (w .sessions c) number out (h .sessions c))
+        (CP.retry-good (p .viewSession (w .sessions c)) number (length out) (k .sessions c .window) .frames)
+    next-follows (deliver which out) = sent-follows (at (w .sent) which) out small
+      where
+        R : Address → Frame → Type 0
+        R = RightTo n m (logsOf (entriesOf (meaning code p w .boards))) (w .invoked)
+
+        small : (q : Packet) → at (w .sent) which ≡ some q → Bytes (q .bytes)
+        small q e = let f = all-at (Flies R) (w .sent) which q e (k .good .core .flight) in rw (f .bytes) (encode-bytes (f .frame) (f .rules))
+
+  after-follows : (n m : ℕ) (w : World (agents code)) (xs : List (Choice (agents code))) → Held w → Known n m (meaning code p w)
+      → Follows (after (agents code) n w xs) (after rules n (meaning code p w) (map meantChoice xs))
+  unfolding after
+  after-follows n m w [] h k = record { held = h; means = refl }
+  after-follows n m w (x ∷ xs) h k =
+      let v = meaning code p w in
+      let y = meantChoice x in
+      let f = next-follows n m w h k x in
+      let rest = after-follows n m (next (agents code) n w x) xs (f .held) (rw (f .means) (known-lasts n m v (next rules n v y) (happens n v y) k)) in
+      record { held = rest .held; means = rest .means ∙ ap (λ (u : World rules). after rules n u (map meantChoice xs)) (f .means) }
+
+  start-follows : (n m : ℕ) → Follows (start (agents code) n m) (start rules n m)
+  unfolding start meaning
+  start-follows n m =
+      let bs : _≡_ {A = ℕ → B.Board} (λ i. p .viewBoard (code .startBoard n m i)) (λ i. B.start n m i .state) = fun-ext (λ i. p .boardStarts n m i .1) in
+      let ss : _≡_ {A = ℕ → S.Shard} (λ j. p .viewShard (code .startShard m j)) (λ j. S.start m j .state) = fun-ext (λ j. p .shardStarts m j .1) in
+      let cs : _≡_ {A = ℕ → C.Session} (λ c. p .viewSession (code .startSession c)) (λ c. C.start c .state) = fun-ext (λ c. p .sessionStarts c .1) in
       record {
-        held = unfold atBoard in record { boards = changed-all (λ j b. v .HeldBoard b) (w .boards) i _ (s .0) (h .boards); shards = h .shards; sessions = h .sessions };
-        means = board-meant n w i (a .stepBoard (w .boards i) bytes out) ∙ unfold meant in ap (W.atBoard n (meant a v w) i) (s .1);
-      }
-  arrive-steps n w (shard j) bytes out h =
-      let s = v .shardSteps (w .shards j) bytes out (h .shards j) in
-      record {
-        held = unfold atShard in record { boards = h .boards; shards = changed-all (λ i b. v .HeldShard b) (w .shards) j _ (s .0) (h .shards); sessions = h .sessions };
-        means = shard-meant n w j (a .stepShard (w .shards j) bytes out) ∙ unfold meant in ap (W.atShard n (meant a v w) j) (s .1);
-      }
-  arrive-steps n w (client c) bytes out h =
-      let s = v .responds (w .sessions c) bytes (h .sessions c) in
-      record {
-        held = unfold atClient in record { boards = h .boards; shards = h .shards; sessions = changed-all (λ i b. v .HeldSession b) (w .sessions) c _ (s .0) (h .sessions) };
-        means = client-meant w c (a .respond (w .sessions c) bytes) ∙ unfold meant in ap (W.atClient (meant a v w) c) (s .1);
+        held = record { boards = λ i. p .boardStarts n m i .0; shards = λ j. p .shardStarts m j .0; sessions = λ c. p .sessionStarts c .0 };
+        means = λ i. record { boards = bs i; shards = ss i; sessions = cs i; sent = []; invoked = λ c. []; replies = [] };
       }
 
-  asked-held : (n : ℕ) (w : Register a) (c : ℕ) (past : List (List Operation)) (o : Outcome (a .Session)) → Held w → v .HeldSession (o .state) → Held (asked a n w c past o)
-  unfolding asked
-  asked-held n w c past o h s = record { boards = h .boards; shards = h .shards; sessions = changed-all (λ i b. v .HeldSession b) (w .sessions) c (o .state) s (h .sessions) }
+  -- every run of the code is held, and means the rules' run by the same choices
+  pub run-follows : (n m : ℕ) (choices : List (Choice (agents code))) → Follows (run (agents code) n m choices) (run rules n m (map meantChoice choices))
+  unfolding run
+  run-follows n m choices =
+      let s = start-follows n m in
+      let f = after-follows n m (start (agents code) n m) choices (s .held) (rw (s .means) (known-starts n m)) in
+      record { held = f .held; means = f .means ∙ ap (λ (u : World rules). after rules n u (map meantChoice choices)) (s .means) }
 
-  any-steps : (n : ℕ) (w : Register a) (o : Option Packet) (out : ℕ) → Held w → Steps (arriveAny a n w o out) (W.arriveAny n (meant a v w) o out)
-  unfolding arriveAny W.arriveAny
-  any-steps n w none out h = record { held = h; means = refl }
-  any-steps n w (some p) out h = arrive-steps n w (p .to) (p .bytes) out h
-
-  next-steps : (n : ℕ) (w : Register a) (x : Choice) → Held w → Steps (next a n w x) (W.next n (meant a v w) x)
-  unfolding next W.next meant
-  next-steps n w (invoke c list out) h =
-      let s = v .invokes (w .sessions c) list out (h .sessions c) in
-      let past = W.remembered (w .invoked c) (C.allMeant list) in
-      record {
-        held = asked-held n w c past (a .invoke (w .sessions c) list out) h (s .0);
-        means = asked-meant n w c past (a .invoke (w .sessions c) list out) ∙ ap (W.asked n (meant a v w) c past) (s .1);
-      }
-  next-steps n w (retry c k out) h =
-      let s = v .retries (w .sessions c) k out (h .sessions c) in
-      record {
-        held = asked-held n w c (w .invoked c) (a .retry (w .sessions c) k out) h (s .0);
-        means = asked-meant n w c (w .invoked c) (a .retry (w .sessions c) k out) ∙ ap (W.asked n (meant a v w) c (w .invoked c)) (s .1);
-      }
-  next-steps n w (deliver which out) h = any-steps n w (at (w .sent) which) out h
-
-  run-steps : (n m : ℕ) (xs : List Choice) → Steps (run a n m xs) (W.run n m xs)
-  unfolding run W.run
-  run-steps n m [] = starts
-    where
-      starts : Steps (start a n m) (W.start n m)
-      starts =
-          unfold start W.start meant in
-          record {
-            held = record { boards = λ i. v .boardStarts n m i .0; shards = λ j. v .shardStarts m j .0; sessions = λ c. v .sessionStarts c .0 };
-            means =
-                let x : _≡_ {A = ℕ → B.Board} (λ i. v .viewBoard (a .startBoard n m i)) (λ i. B.start n m i .state) = fun-ext (λ i. v .boardStarts n m i .1) in
-                let y : _≡_ {A = ℕ → S.Shard} (λ j. v .viewShard (a .startShard m j)) (λ j. S.start m j .state) = fun-ext (λ j. v .shardStarts m j .1) in
-                let z : _≡_ {A = ℕ → C.Session} (λ c. v .viewSession (a .startSession c)) (λ c. C.start c .state) = fun-ext (λ c. v .sessionStarts c .1) in
-                λ i. record { boards = x i; shards = y i; sessions = z i; sent = []; invoked = λ c. []; replies = [] };
-          }
-  run-steps n m (x ∷ xs) =
-      let s = run-steps n m xs in
-      let t = next-steps n (run a n m xs) x (s .held) in
-      record { held = t .held; means = t .means ∙ ap (λ (w : World). W.next n w x) (s .means) }
-
-  -- DEMAND 3 of the code: every moment of every run of its own step functions means a safe one
-  pub safe-code : (n m : ℕ) (xs : List Choice) → Safe n m (meant a v (run a n m xs))
-  safe-code n m xs = rw (run-steps n m xs .means) (safe n m xs)
-
--- the rules' own agents are such agents: what is asked of code can be met
-rulesAgents : Agents
-rulesAgents =
-    record {
-      Board = B.Board;
-      Shard = S.Shard;
-      Session = C.Session;
-      startBoard = λ n m i. B.start n m i .state;
-      startShard = λ m j. S.start m j .state;
-      startSession = λ c. C.start c .state;
-      stepBoard = B.step;
-      stepShard = S.step;
-      invoke = C.invoke;
-      retry = C.retry;
-      respond = λ s bytes. record { answer = C.step s bytes .answer; session = C.step s bytes .session; number = C.step s bytes .number; reads = C.step s bytes .reads };
-    }
-
-rulesMean : Means rulesAgents
-unfolding rulesAgents viewOutcome viewReply
-rulesMean =
-    record {
-      viewBoard = λ b. b;
-      viewShard = λ s. s;
-      viewSession = λ s. s;
-      HeldBoard = λ b. Unit {0};
-      HeldShard = λ s. Unit {0};
-      HeldSession = λ s. Unit {0};
-      boardStarts = λ n m i. (tt, refl);
-      shardStarts = λ m j. (tt, refl);
-      sessionStarts = λ c. (tt, refl);
-      boardSteps = λ b bytes out h. (tt, refl);
-      shardSteps = λ s bytes out h. (tt, refl);
-      invokes = λ s list out h. (tt, refl);
-      retries = λ s number out h. (tt, refl);
-      responds = λ s bytes h. (tt, refl);
-    }
+  -- DEMAND 3 of the code
+  pub safe-code : Demand3Of code p
+  safe-code n m choices = rw (run-follows n m choices .means) (safe n m (map meantChoice choices))

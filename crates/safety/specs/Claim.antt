@@ -1,35 +1,56 @@
--- Demand 3: what is claimed of every moment of every run.
+-- Demand 3, stated. A reviewer needs this file, and World, which says what a run is.
+-- "Start a fixed chain, its shard groups and one session per client fresh" is World's start, for any n and m; "and let them take 2's
+-- steps" is next, over the agents `rules`. "Frames arrive unaltered, only where they were sent, in any order, late, many times or never, and
+-- none that wasn't sent in this run" is the choice deliver: it names any one of the frames sent so far, and takes none away.
+-- "At every moment": the beginnings of a run are runs, so what holds of each run's end holds of each run's every moment.
 -- Assumes nothing.
 use mathlib.Core.Path.{_≡_}
-use mathlib.Core.Logic.{_≢_}
 use mathlib.Core.List.{List, [], _∷_, _++_}
 use mathlib.Core.Option.{Option, none, some}
 use Prim.Native.Nat.{ℕ, zero, suc, _≤_, _<_}
+use lib.Dec.{T}
 use Rattle.rules.specs.Lists.{if_then_else_, _=?_, at}
-use Rattle.rules.specs.Transactions.{Write, Read, shardOf, storeAfterLog, readsInLog}
+use Rattle.rules.specs.Transactions.{Operation, Write, Read, Store, shardOf, touches, storeAfterLog, readsInLog}
 use Rattle.rules.specs.Board.{writes}
-use Rattle.safety.specs.World.{World, ReplyTaken}
+use Rattle.safety.specs.World.{World, rules, ReplyTaken, Choice, run}
 
 -- ---- The words of the claim
 
--- how many entries the last run one ends: none of them, or those through it
-abbrev pub through : Option ℕ → ℕ
-through none = 0
-through (some ind) = suc ind
-
--- a client's entries
-abbrev pub ofClient : ℕ → List Write → List Write
-ofClient c [] = []
-ofClient c (w ∷ ws) = if w.client =? c then w ∷ ofClient c ws else ofClient c ws
+-- the log of board i: "clients, numbers, operations"
+abbrev pub logOf : World rules → ℕ → List Write
+logOf w i = writes (w .boards i .log)
 
 -- the first list begins the second
 pub record Prefix (s t : List Write) : Type 0 where
   pub rest : List Write
   pub whole : s ++ rest ≡ t
 
--- ---- The claim
+-- a client's entries, in order
+abbrev pub ofClient : ℕ → List Write → List Write
+ofClient c [] = []
+ofClient c (w ∷ ws) = if w.client =? c then w ∷ ofClient c ws else ofClient c ws
 
--- a reply has the reads that running the log gives its entry
+-- a client's invocations as writes, numbered from k on
+abbrev pub invocations : ℕ → ℕ → List (List Operation) → List Write
+invocations c k [] = []
+invocations c k (os ∷ rest) = record { client = c; number = k; operations = os } ∷ invocations c (suc k) rest
+
+-- how many entries there are through the last one that a shard ran
+abbrev pub through : Option ℕ → ℕ
+through none = 0
+through (some ind) = suc ind
+
+-- the keys of shard j in a store of all keys; no other key is present
+abbrev pub keysOf : ℕ → ℕ → Store → Store
+keysOf m j store = λ key. if shardOf m key =? j then store key else none
+
+-- the entry at ind stands in the log and touches shard j
+pub record Touching (m j : ℕ) (log : List Write) (ind : ℕ) : Type 0 where
+  pub write : Write
+  pub stands : at log ind ≡ some write
+  pub touching : T (touches m j (write .operations))
+
+-- a reply has the reads that running the log one transaction at a time gives for that client's number
 pub record ReplyRight (log : List Write) (r : ReplyTaken) : Type 0 where
   pub ind : ℕ
   pub write : Write
@@ -38,16 +59,20 @@ pub record ReplyRight (log : List Write) (r : ReplyTaken) : Type 0 where
   pub number : write .number ≡ r .number
   pub reads : r .reads ≡ readsInLog log ind write
 
-abbrev pub logOf : World → ℕ → List Write
-logOf w i = writes (w .boards i .log)
+-- ---- The claim
 
-pub record Safe (n m : ℕ) (w : World) : Type 0 where
-  -- each board's log is a prefix of its predecessor's
+pub record Safe (n m : ℕ) (w : World rules) : Type 0 where
+  -- "each board's log (clients, numbers, operations) is a prefix of its predecessor's"
   pub prefixes : (i : ℕ) → 1 ≤ i → i < n → Prefix (logOf w (suc i)) (logOf w i)
-  -- each client's entries in the first log are its first invocations, numbered 0, 1, 2, .., each once
-  pub numbered : (c k : ℕ) (v : Write) → at (ofClient c (logOf w 1)) k ≡ some v → (v .number ≡ k) × (at (w .invoked c) k ≡ some (v .operations))
-  -- each shard's keys are those of running the first log through the last entry that it ran; other shards' keys are absent
-  pub own-keys : (j key : ℕ) → 1 ≤ j → j ≤ m → shardOf m key ≡ j → w .shards j .store key ≡ storeAfterLog (logOf w 1) (through (w .shards j .lastRun)) key
-  pub other-keys : (j key : ℕ) → shardOf m key ≢ j → w .shards j .store key ≡ none
-  -- each reply taken has the reads that running the first log gives
+  -- "each client's entries in the first log are its first invocations, in order, each once": they bear the numbers 0, 1, 2, ..
+  pub firsts : (c : ℕ) → Prefix (ofClient c (logOf w 1)) (invocations c 0 (w .invoked c))
+  -- "through the last entry it ran": that entry is in the first log, and touches the shard
+  pub ran : (j ind : ℕ) → w .shards j .lastRun ≡ some ind → Touching m j (logOf w 1) ind
+  -- "each shard's keys .. are what running the first log one transaction at a time gives", values and log numbers
+  pub keys : (j key : ℕ) → w .shards j .store key ≡ keysOf m j (storeAfterLog (logOf w 1) (through (w .shards j .lastRun))) key
+  -- "and each reply a client takes"
   pub replies : (which : ℕ) (r : ReplyTaken) → at (w .replies) which ≡ some r → ReplyRight (logOf w 1) r
+
+-- DEMAND 3, of every moment of every run; proved in proofs/Safety
+abbrev pub Demand3 : Type 0
+Demand3 = (n m : ℕ) (choices : List (Choice rules)) → Safe n m (run rules n m choices)

@@ -1,156 +1,125 @@
--- A register made of code: agents of any kind that start and step as the rules' do, and its runs. Word for word the runs of World.
+-- A register made of code: the code's own states and functions, what its promises say of them, and demand 3 of every run of them.
 -- Assumes nothing.
 use mathlib.Core.Path.{_≡_}
-use mathlib.Core.List.{List, [], _∷_, _++_}
-use mathlib.Core.Option.{Option, none, some}
+use mathlib.Core.List.{List}
 use Prim.Native.Nat.{ℕ}
-use Rattle.rules.specs.Lists.{if_then_else_, _=?_, at, changed}
-use Rattle.rules.specs.Transactions.{Operation, Read}
-use Rattle.rules.specs.Outcomes.{Outcome}
+use lib.Dec.{T}
+use lib.ListN.{length}
+use Rattle.rules.specs.Lists.{_≤?_, every}
+use Rattle.rules.specs.Transactions.{Read}
+use Rattle.rules.specs.Outcomes.{Outcome, frameCount, outAfter}
 use Rattle.rules.specs.Board as B
 use Rattle.rules.specs.Shard as S
 use Rattle.rules.specs.Session as C
-use Rattle.safety.specs.World.{World, Address, board, shard, client, Packet, posted, ReplyTaken, remembered, Choice, invoke, retry, deliver}
+use Rattle.safety.specs.World.{Replied, Agents, rules, World, Choice, run}
+use Rattle.safety.specs.OutArea.{framesIn}
+use Rattle.safety.specs.Claim.{Safe}
 
--- what a session's Response step gives
-pub record Replied (State : Type 0) : Type 0 where
+-- ---- The code
+
+-- what a step of the code gives: the answer, the state as it then stands, the count of frames, and the out area as it then lies
+pub record Stepped (State : Type 0) : Type 0 where
   pub answer : ℕ
-  pub session : State
-  pub number : ℕ
-  pub reads : List Read
+  pub state : State
+  pub frames : ℕ
+  pub out : List ℕ
 
--- the code's own states and step functions
-pub record Agents : Type 1 where
+-- The code's own states, starts and steps, as its promises give them (`startOf`, `stepOf`, `outOf`, ..): a step has the state, a frame's bytes
+-- and the out area as it lies. A Request is what invoke is handed (numbers that fit their types), asks the operation list that it is.
+pub record Code : Type 1 where
   pub Board : Type 0
   pub Shard : Type 0
   pub Session : Type 0
   pub startBoard : ℕ → ℕ → ℕ → Board
   pub startShard : ℕ → ℕ → Shard
   pub startSession : ℕ → Session
-  pub stepBoard : Board → List ℕ → ℕ → Outcome Board
-  pub stepShard : Shard → List ℕ → ℕ → Outcome Shard
-  pub invoke : Session → List C.Asked → ℕ → Outcome Session
-  pub retry : Session → ℕ → ℕ → Outcome Session
+  pub stepBoard : Board → List ℕ → List ℕ → Stepped Board
+  pub stepShard : Shard → List ℕ → List ℕ → Stepped Shard
+  pub Request : Type 0
+  pub asks : Request → List C.Asked
+  pub invoke : Session → Request → List ℕ → Stepped Session
+  pub retry : Session → ℕ → List ℕ → Stepped Session
   pub respond : Session → List ℕ → Replied Session
 
-unfoldable pub viewOutcome : {A B : Type 0} → (A → B) → Outcome A → Outcome B
-viewOutcome view o = record { answer = o .answer; state = view (o .state); frames = o .frames }
+-- the frames that a step sent are read off its out area, as many as it counted
+unfoldable pub readOff : {State : Type 0} → Stepped State → Outcome State
+readOff g = record { answer = g .answer; state = g .state; frames = framesIn (g .frames) (g .out) }
 
-unfoldable pub viewReply : {A : Type 0} → (A → C.Session) → Replied A → C.Reply
-viewReply view r = record { answer = r .answer; session = view (r .session); number = r .number; reads = r .reads }
-
--- what a state of the code means, and what each crate's promises say: starts are held, steps keep what is held and mean the rules' steps
-pub record Means (a : Agents) : Type 1 where
-  pub viewBoard : a .Board → B.Board
-  pub viewShard : a .Shard → S.Shard
-  pub viewSession : a .Session → C.Session
-  pub HeldBoard : a .Board → Type 0
-  pub HeldShard : a .Shard → Type 0
-  pub HeldSession : a .Session → Type 0
-  pub boardStarts : (n m i : ℕ) → HeldBoard (a .startBoard n m i) × (viewBoard (a .startBoard n m i) ≡ B.start n m i .state)
-  pub shardStarts : (m j : ℕ) → HeldShard (a .startShard m j) × (viewShard (a .startShard m j) ≡ S.start m j .state)
-  pub sessionStarts : (c : ℕ) → HeldSession (a .startSession c) × (viewSession (a .startSession c) ≡ C.start c .state)
-  pub boardSteps : (b : a .Board) (bytes : List ℕ) (out : ℕ) → HeldBoard b
-      → HeldBoard (a .stepBoard b bytes out .state) × (viewOutcome viewBoard (a .stepBoard b bytes out) ≡ B.step (viewBoard b) bytes out)
-  pub shardSteps : (s : a .Shard) (bytes : List ℕ) (out : ℕ) → HeldShard s
-      → HeldShard (a .stepShard s bytes out .state) × (viewOutcome viewShard (a .stepShard s bytes out) ≡ S.step (viewShard s) bytes out)
-  pub invokes : (s : a .Session) (list : List C.Asked) (out : ℕ) → HeldSession s
-      → HeldSession (a .invoke s list out .state) × (viewOutcome viewSession (a .invoke s list out) ≡ C.invoke (viewSession s) list out)
-  pub retries : (s : a .Session) (number out : ℕ) → HeldSession s
-      → HeldSession (a .retry s number out .state) × (viewOutcome viewSession (a .retry s number out) ≡ C.retry (viewSession s) number out)
-  pub responds : (s : a .Session) (bytes : List ℕ) → HeldSession s
-      → HeldSession (a .respond s bytes .session) × (viewReply viewSession (a .respond s bytes) ≡ C.step (viewSession s) bytes)
-
-pub record Register (a : Agents) : Type 0 where
-  pub boards : ℕ → a .Board
-  pub shards : ℕ → a .Shard
-  pub sessions : ℕ → a .Session
-  pub sent : List Packet
-  pub invoked : ℕ → List (List Operation)
-  pub replies : List ReplyTaken
-
--- what a register means
-unfoldable pub meant : (a : Agents) → Means a → Register a → World
-meant a v w =
+abbrev pub agents : Code → Agents
+agents code =
     record {
-      boards = λ i. v .viewBoard (w .boards i);
-      shards = λ j. v .viewShard (w .shards j);
-      sessions = λ c. v .viewSession (w .sessions c);
+      Board = code .Board;
+      Shard = code .Shard;
+      Session = code .Session;
+      startBoard = code .startBoard;
+      startShard = code .startShard;
+      startSession = code .startSession;
+      stepBoard = λ b bytes out. readOff (code .stepBoard b bytes out);
+      stepShard = λ s bytes out. readOff (code .stepShard s bytes out);
+      Request = code .Request;
+      asks = code .asks;
+      invoke = λ s request out. readOff (code .invoke s request out);
+      retry = λ s number out. readOff (code .retry s number out);
+      respond = code .respond;
+    }
+
+-- ---- Its promises
+
+-- each number is a byte
+abbrev pub Bytes : List ℕ → Type 0
+Bytes s = T (every (λ x. x ≤? 255) s)
+
+-- a step of the code is the rules' step o: it keeps what is held, and its answer, state, count and out area are the rules'
+pub record Meant {State Rule : Type 0} (Held : State → Type 0) (view : State → Rule) (out : List ℕ) (g : Stepped State) (o : Outcome Rule) : Type 0 where
+  pub held : Held (g .state)
+  pub answer : g .answer ≡ o .answer
+  pub state : view (g .state) ≡ o .state
+  pub frames : g .frames ≡ frameCount o
+  pub written : g .out ≡ outAfter (o .frames) out
+
+pub record MeantReply {State : Type 0} (Held : State → Type 0) (view : State → C.Session) (g : Replied State) (r : C.Reply) : Type 0 where
+  pub held : Held (g .session)
+  pub answer : g .answer ≡ r .answer
+  pub session : view (g .session) ≡ r .session
+  pub number : g .number ≡ r .number
+  pub reads : g .reads ≡ r .reads
+
+-- Held: what every start gives and every step keeps; view: what a state of the code means
+pub record Promises (code : Code) : Type 1 where
+  pub HeldBoard : code .Board → Type 0
+  pub HeldShard : code .Shard → Type 0
+  pub HeldSession : code .Session → Type 0
+  pub viewBoard : code .Board → B.Board
+  pub viewShard : code .Shard → S.Shard
+  pub viewSession : code .Session → C.Session
+  pub boardStarts : (n m own : ℕ) → HeldBoard (code .startBoard n m own) × (viewBoard (code .startBoard n m own) ≡ B.start n m own .state)
+  pub shardStarts : (m own : ℕ) → HeldShard (code .startShard m own) × (viewShard (code .startShard m own) ≡ S.start m own .state)
+  pub sessionStarts : (client : ℕ) → HeldSession (code .startSession client) × (viewSession (code .startSession client) ≡ C.start client .state)
+  pub boardSteps : (b : code .Board) (bytes out : List ℕ) → HeldBoard b → Bytes bytes
+      → Meant HeldBoard viewBoard out (code .stepBoard b bytes out) (B.step (viewBoard b) bytes (length out))
+  pub shardSteps : (s : code .Shard) (bytes out : List ℕ) → HeldShard s → Bytes bytes
+      → Meant HeldShard viewShard out (code .stepShard s bytes out) (S.step (viewShard s) bytes (length out))
+  pub invokes : (s : code .Session) (request : code .Request) (out : List ℕ) → HeldSession s
+      → Meant HeldSession viewSession out (code .invoke s request out) (C.invoke (viewSession s) (code .asks request) (length out))
+  pub retries : (s : code .Session) (number : ℕ) (out : List ℕ) → HeldSession s
+      → Meant HeldSession viewSession out (code .retry s number out) (C.retry (viewSession s) number (length out))
+  pub responds : (s : code .Session) (bytes : List ℕ) → HeldSession s → Bytes bytes
+      → MeantReply HeldSession viewSession (code .respond s bytes) (C.step (viewSession s) bytes)
+
+-- ---- Demand 3 of the code
+
+-- what a world of the code's states means: each state what it means, all else as it is
+unfoldable pub meaning : (code : Code) → Promises code → World (agents code) → World rules
+meaning code p w =
+    record {
+      boards = λ i. p .viewBoard (w .boards i);
+      shards = λ j. p .viewShard (w .shards j);
+      sessions = λ c. p .viewSession (w .sessions c);
       sent = w .sent;
       invoked = w .invoked;
       replies = w .replies;
     }
 
-module _ (a : Agents) where
-  unfoldable pub start : ℕ → ℕ → Register a
-  start n m =
-      record {
-        boards = λ i. a .startBoard n m i;
-        shards = λ j. a .startShard m j;
-        sessions = λ c. a .startSession c;
-        sent = [];
-        invoked = λ c. [];
-        replies = [];
-      }
-
-  unfoldable pub atBoard : ℕ → Register a → ℕ → Outcome (a .Board) → Register a
-  atBoard n w i o =
-      record {
-        boards = changed (w .boards) i (o .state);
-        shards = w .shards;
-        sessions = w .sessions;
-        sent = posted n i (o .frames) ++ w .sent;
-        invoked = w .invoked;
-        replies = w .replies;
-      }
-
-  unfoldable pub atShard : ℕ → Register a → ℕ → Outcome (a .Shard) → Register a
-  atShard n w j o =
-      record {
-        boards = w .boards;
-        shards = changed (w .shards) j (o .state);
-        sessions = w .sessions;
-        sent = posted n j (o .frames) ++ w .sent;
-        invoked = w .invoked;
-        replies = w .replies;
-      }
-
-  unfoldable pub asked : ℕ → Register a → ℕ → List (List Operation) → Outcome (a .Session) → Register a
-  asked n w c history o =
-      record {
-        boards = w .boards;
-        shards = w .shards;
-        sessions = changed (w .sessions) c (o .state);
-        sent = posted n c (o .frames) ++ w .sent;
-        invoked = changed (w .invoked) c (if o .answer =? 0 then history else w .invoked c);
-        replies = w .replies;
-      }
-
-  unfoldable pub atClient : Register a → ℕ → Replied (a .Session) → Register a
-  atClient w c r =
-      record {
-        boards = w .boards;
-        shards = w .shards;
-        sessions = changed (w .sessions) c (r .session);
-        sent = w .sent;
-        invoked = w .invoked;
-        replies = if r .answer =? 0 then record { client = c; number = r .number; reads = r .reads } ∷ w .replies else w .replies;
-      }
-
-  unfoldable pub arrive : ℕ → Register a → Address → List ℕ → ℕ → Register a
-  arrive n w (board i) bytes out = atBoard n w i (a .stepBoard (w .boards i) bytes out)
-  arrive n w (shard j) bytes out = atShard n w j (a .stepShard (w .shards j) bytes out)
-  arrive n w (client c) bytes out = atClient w c (a .respond (w .sessions c) bytes)
-
-  unfoldable pub arriveAny : ℕ → Register a → Option Packet → ℕ → Register a
-  arriveAny n w none out = w
-  arriveAny n w (some p) out = arrive n w (p .to) (p .bytes) out
-
-  unfoldable pub next : ℕ → Register a → Choice → Register a
-  next n w (invoke c list out) = asked n w c (remembered (w .invoked c) (C.allMeant list)) (a .invoke (w .sessions c) list out)
-  next n w (retry c number out) = asked n w c (w .invoked c) (a .retry (w .sessions c) number out)
-  next n w (deliver which out) = arriveAny n w (at (w .sent) which) out
-
-  unfoldable pub run : ℕ → ℕ → List Choice → Register a
-  run n m [] = start n m
-  run n m (x ∷ xs) = next n (run n m xs) x
+-- every moment of every run of the code's own functions; proved in proofs/Coded, for any code that keeps its promises
+abbrev pub Demand3Of : (code : Code) → Promises code → Type 0
+Demand3Of code p = (n m : ℕ) (choices : List (Choice (agents code))) → Safe n m (meaning code p (run (agents code) n m choices))
