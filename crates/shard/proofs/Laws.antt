@@ -1,0 +1,189 @@
+-- Walking the first n of an array: what is left at i begins with the element there, and a test or a run over it goes on with the rest.
+-- Assumes nothing.
+use mathlib.Core.Path.{_≡_, refl, sym, ap, _∙_}
+use mathlib.Core.Bool.{Bool, true, false, not, _&&_}
+use mathlib.Core.List.{List, [], _∷_, _++_, append-nil}
+use Prim.Native.Nat.{ℕ, suc, _+_, _≤_, _<_}
+use native.Mathlib.Numerals.{add-one}
+use native.Mathlib.Omega.{arith}
+use lib.ListN.{length, getD, take, drop, set, length-set, drop-of-length-le}
+use lib.Seq.{drop-cons, getD-take, length-take-le}
+use borrow.Author.Tests.{not-true, not-false, eq-eqb, ne-eqb}
+use Rattle.rules.specs.Lists.{if_then_else_, every}
+use Rattle.frames.specs.declared.Item.{Item}
+use Rattle.frames.specs.declared.Head.{Head}
+use Rattle.frames.specs.declared.Head.the-variants.{Bad, Submit, Forward, ShardAppend, ExecNotif, Executed, Response}
+use Rattle.frames.specs.declared.Frame.{Frame}
+use Rattle.frames.specs.Frames.{noItem, frameBytes, readFrame, writtenOf, laidOf}
+use Rattle.frames.proofs.Puts.{writes, lays}
+use Rattle.shard.proofs.Read.{FewReads, ran-few, no-reads-few, taken-room, notif-room}
+use Rattle.frames.proofs.Head.{the-type}
+use Rattle.rules.specs.Answers.{notForMe}
+use Rattle.shard.specs.declared.Cell.{Cell}
+use Rattle.shard.specs.declared.Shard.{Shard}
+use Rattle.shard.specs.declared.Stepped.{Stepped}
+use Rattle.shard.specs.declared.Verdict.{Verdict}
+use Rattle.shard.specs.declared.Reads.{Reads}
+use Rattle.shard.specs.Model.{refused, judgeHead, judge, cellAt, cellAfter, noReads, noted, Running, turn, ran, execNotif, Outcome, after, settled, outcome, stepped, laid, stepOf, outOf}
+use denote.Enum.Declared.{tagOf}
+use types.Run.{OneOf, miss}
+
+module _ {A : Type 0} (l : List A) (n : ℕ) (h : n ≤ length l) where
+  front-cons : (i : ℕ) (d : A) → i < n → drop i (take n l) ≡ getD l i d ∷ drop (i + 1) (take n l)
+  front-cons i d k =
+      let e : length (take n l) ≡ n = length-take-le n l h in
+      let g : i < length (take n l) = omega arith in
+      drop-cons (take n l) i d g ∙ rw (add-one, getD-take n l i d k)
+
+  front-end : (i : ℕ) → n ≤ i → drop i (take n l) ≡ []
+  front-end i k =
+      let e : length (take n l) ≡ n = length-take-le n l h in
+      let g : length (take n l) ≤ i = omega arith in
+      drop-of-length-le (take n l) g
+
+  -- a test of each
+  pub every-no : (ok : A → Bool) (i : ℕ) (d : A) (t : Bool) → i < n → t ≡ ok (getD l i d) → not t ≡ true → every ok (drop i (take n l)) ≡ false
+  every-no ok i d t k e f = rw (front-cons i d k, ← e, not-true t f)
+
+  pub every-yes : (ok : A → Bool) (i : ℕ) (d : A) (t : Bool) → i < n → t ≡ ok (getD l i d) → not t ≡ false
+      → every ok (drop (i + 1) (take n l)) ≡ every ok (drop i (take n l))
+  every-yes ok i d t k e f = rw (front-cons i d k, ← e, not-false t f)
+
+  pub every-end : (ok : A → Bool) (i : ℕ) → n ≤ i → every ok (drop i (take n l)) ≡ true
+  every-end ok i k = rw (front-end i k)
+
+-- a run
+module _ (l : List Item) (n : ℕ) (h : n ≤ length l) (ind : ℕ) where
+  pub ran-on : (i : ℕ) (d : Item) (r : Running) → i < n → ran ind (drop (i + 1) (take n l)) (turn ind (getD l i d) r) ≡ ran ind (drop i (take n l)) r
+  unfolding ran
+  ran-on i d r k = rw (front-cons l n h i d k)
+
+  pub ran-end : (i : ℕ) (r : Running) → n ≤ i → ran ind (drop i (take n l)) r ≡ r
+  unfolding ran
+  ran-end i r k = rw (front-end l n h i k)
+
+-- ---- A head that is neither Bad nor a ShardAppend is for somebody else
+
+abbrev tag : Head → ℕ
+tag h = tagOf the-type h
+
+pub others : (m own ssn last : ℕ) (xs : List Item) (h : Head) → OneOf (1 ∷ 2 ∷ 3 ∷ 4 ∷ 5 ∷ 6 ∷ []) (tag h) → OneOf (0 ∷ 1 ∷ 2 ∷ 4 ∷ 5 ∷ 6 ∷ []) (tag h)
+    → judgeHead m own ssn last xs h ≡ refused notForMe
+unfolding judgeHead
+others m own ssn last xs Bad p q = absurd (miss (1 ∷ 2 ∷ 3 ∷ 4 ∷ 5 ∷ 6 ∷ []) 0 tt p)
+others m own ssn last xs (Submit client number ack) p q = refl
+others m own ssn last xs (Forward ind client number ack) p q = refl
+others m own ssn last xs (ShardAppend shard ind sn) p q = absurd (miss (0 ∷ 1 ∷ 2 ∷ 4 ∷ 5 ∷ 6 ∷ []) 3 tt q)
+others m own ssn last xs (ExecNotif shard ind) p q = refl
+others m own ssn last xs (Executed ind) p q = refl
+others m own ssn last xs (Response client number) p q = refl
+
+pub and-second : (a b : Bool) → a && b ≡ true → b ≡ true
+and-second true b e = e
+and-second false b e = let z : _≡_ {A = ℕ} 0 1 = cc in absurd (omega arith)
+
+-- ---- The loop of a step
+
+-- so far so many operations have run, and what is left leads where the whole list leads
+pub record Along (ind n : ℕ) (xs : List Item) (s₀ s : Shard) (rs₀ rs : Reads) (i : ℕ) : Type 0 where
+  pub at : i ≤ n
+  pub few : n ≤ length xs
+  pub four : n ≤ 4
+  pub size : length (s .cells) ≡ 256
+  pub run : ran ind (drop i (take n xs)) (record { cells = s .cells; reads = rs }) ≡ ran ind (take n xs) (record { cells = s₀ .cells; reads = rs₀ })
+  pub m : s .m ≡ s₀ .m
+  pub own : s .own ≡ s₀ .own
+  pub started : s .started ≡ s₀ .started
+
+module _ (ind n : ℕ) (xs : List Item) (s₀ s : Shard) (rs₀ rs : Reads) (i : ℕ) (a : Along ind n xs s₀ s rs₀ rs i) where
+  pub along-on : (c : Cell) (rs′ : Reads) → i < n
+      → rs′ ≡ noted rs (getD xs i noItem) (cellAt (s .cells) (getD xs i noItem .key))
+      → c ≡ cellAfter ind (getD xs i noItem) (cellAt (s .cells) (getD xs i noItem .key))
+      → Along ind n xs s₀
+      (record { cells = set (s .cells) (getD xs i noItem .key) c; ssn = s .ssn; «last_run» = s .«last_run»; m = s .m; own = s .own; started = s .started })
+      rs₀ rs′ (i + 1)
+  unfolding turn
+  along-on c rs′ k e d =
+      record {
+        at = omega arith;
+        few = a .few;
+        four = a .four;
+        size = length-set (s .cells) (getD xs i noItem .key) c ∙ a .size;
+        run =
+            (λ j. ran ind (drop (i + 1) (take n xs)) (record { cells = set (s .cells) (getD xs i noItem .key) (d j); reads = e j }))
+            ∙ ran-on xs n (a .few) ind i noItem (record { cells = s .cells; reads = rs }) k ∙ a .run;
+        m = a .m;
+        own = a .own;
+        started = a .started;
+      }
+
+  pub along-end : n ≤ i → ran ind (take n xs) (record { cells = s₀ .cells; reads = rs₀ }) ≡ record { cells = s .cells; reads = rs }
+  along-end k = sym (a .run) ∙ ran-end xs n (a .few) ind i (record { cells = s .cells; reads = rs }) k
+
+-- ---- The ways out of a step
+
+module _ (s : Shard) (bytes out : List ℕ) where
+  abbrev pub Given : Stepped → List ℕ → Type 0
+  Given r left = (r ≡ stepOf s bytes (length out)) × (left ≡ outOf s bytes out)
+
+  given : (o : Outcome) → outcome s bytes (length out) ≡ o → Given (stepped o) (laid (o .frames) out)
+  unfolding stepOf outOf
+  given o e = (ap stepped (sym e), ap (λ (x : Outcome). laid (x .frames) out) (sym e))
+
+  module _ (f : Frame) (e : f ≡ readFrame bytes) (v : Verdict) (d : v ≡ judge (s .started) (length out) (s .m) (s .own) (s .ssn) (s .«last_run») f) where
+    is-settled : outcome s bytes (length out) ≡ settled s f v
+    unfolding outcome
+    is-settled = rw (← e, ← d)
+
+    pub out-refused : (v .answer ≡ 0 → ⊥) → Given (record { shard = s; answer = v .answer; frames = 0; bytes = 0 }) out
+    unfolding stepped laid
+    out-refused k =
+        given (record { shard = s; answer = v .answer; frames = [] })
+        (is-settled ∙ unfold settled if_then_else_ in (simp (ne-eqb (v .answer) 0 k)))
+
+    pub out-taken : v .answer ≡ 0 → (r : Running) → ran (v .«log_number») (take (f .count) (f .items)) (record { cells = s .cells; reads = noReads }) ≡ r
+        → (g : Frame) → g ≡ execNotif (s .own) (v .«log_number») (r .reads)
+        → (k : ℕ) (left : List ℕ) → k ≡ length (frameBytes g) → left ≡ frameBytes g ++ drop (length (frameBytes g)) out
+        → Given (record { shard = record { cells = r .cells; ssn = v .sn; «last_run» = v .«log_number» + 1; m = s .m; own = s .own; started = s .started }; answer = 0; frames = 1; bytes = k }) left
+    unfolding stepped laid after
+    out-taken k r p g q b left u w =
+        let o = given (after s (v .«log_number») (v .sn) r)
+        (is-settled ∙ unfold settled if_then_else_ in (simp (eq-eqb (v .answer) 0 k, p))) in
+        let n : List ℕ = frameBytes (execNotif (s .own) (v .«log_number») (r .reads)) in
+        let c : b ≡ length (n ++ []) = u ∙ ap (λ (x : Frame). length (frameBytes x)) q ∙ ap length (sym (append-nil n)) in
+        let l : left ≡ (n ++ []) ++ drop (length (n ++ [])) out =
+        w ∙ ap (λ (x : Frame). frameBytes x ++ drop (length (frameBytes x)) out) q ∙ ap (λ (y : List ℕ). y ++ drop (length y) out) (sym (append-nil n)) in (
+          (λ i.
+              record {
+                shard = record { cells = r .cells; ssn = v .sn; «last_run» = v .«log_number» + 1; m = s .m; own = s .own; started = s .started };
+                answer = 0;
+                frames = 1;
+                bytes = c i;
+              })
+              ∙ o .0,
+          l ∙ o .1,
+        )
+
+    pub out-ran : v .answer ≡ 0 → (z rs : Reads) (t : Shard) (i : ℕ) → z ≡ noReads → Along (v .«log_number») (f .count) (f .items) s t z rs i → f .count ≤ i
+        → (g : Frame) → g ≡ execNotif (t .own) (v .«log_number») rs
+        → (k : ℕ) (left : List ℕ) → k ≡ writtenOf g (length out) → left ≡ laidOf g out
+        → Given (record { shard = record { cells = t .cells; ssn = v .sn; «last_run» = v .«log_number» + 1; m = t .m; own = t .own; started = t .started }; answer = 0; frames = 1; bytes = k }) left
+    out-ran y z rs t i x a h g q k left u w =
+        let r = rw x at (along-end (v .«log_number») (f .count) (f .items) s t z rs i a h) in
+        let few : FewReads rs = rw r at (ran-few (v .«log_number») (take (f .count) (f .items)) (record { cells = s .cells; reads = noReads }) no-reads-few) in
+        let fits = rw (← q) at (notif-room (t .own) (v .«log_number») rs few) in
+        let wide = taken-room (s .started) (length out) (s .m) (s .own) (s .ssn) (s .«last_run») f (ap (λ (x : Verdict). x .answer) (sym d) ∙ y) in
+        let short : length (frameBytes g) ≤ length out = omega (arith, fits .1, wide) in
+        let o =
+        out-taken y (record { cells = t .cells; reads = rs }) r g (q ∙ ap (λ (j : ℕ). execNotif j (v .«log_number») rs) (a .own)) k left
+        (u ∙ writes g (length out) (fits .0) short) (w ∙ lays g out (fits .0) short) in (
+          (λ i.
+              record {
+                shard = record { cells = t .cells; ssn = v .sn; «last_run» = v .«log_number» + 1; m = a .m i; own = a .own i; started = a .started i };
+                answer = 0;
+                frames = 1;
+                bytes = k;
+              })
+              ∙ o .0,
+          o .1,
+        )

@@ -1,0 +1,117 @@
+-- What a step needs to know of the frames that it reads and writes.
+-- Assumes nothing.
+use mathlib.Core.Path.{_≡_, refl, sym, ap, _∙_}
+use mathlib.Core.Bool.{Bool, true, false, not, _&&_, _||_}
+use mathlib.Core.List.{List, [], _∷_}
+use Prim.Native.Nat.{ℕ, zero, suc, _+_, _≤_}
+use native.Mathlib.Omega.{arith}
+use lib.Dec.{T, nltb→le, ltb→lt}
+use lib.ListN.{length, drop, length-set}
+use Rattle.rules.specs.Lists.{if_then_else_, _<?_, _≤?_, _=?_}
+use Rattle.rules.specs.Frames.{twoAt, headerWidth}
+use Rattle.rules.specs.Outcomes.{unusable}
+use Rattle.rules.proofs.Lists.{by, and-l, and-r}
+use Rattle.frames.specs.declared.Item.{Item}
+use Rattle.frames.specs.declared.Frame.{Frame}
+use Rattle.frames.specs.declared.Front.{Front}
+use Rattle.frames.specs.Frames.{lenOf, okItem, okFrom, okItems, okHead, valid, badFrame, readSubmit, readForward, readShardAppend, readExecNotif, readExecuted, readResponse, byKind, candidateOf, noFront, taken, accept, readFront, readFrame, frameBytes}
+use Rattle.frames.proofs.Puts.{length-frame}
+use Rattle.shard.specs.declared.Cell.{Cell}
+use Rattle.shard.specs.declared.Reads.{Reads}
+use Rattle.shard.specs.declared.Verdict.{Verdict}
+use Rattle.shard.specs.Model.{readOf, noted, noReads, Running, turn, ran, judge, execNotif}
+
+pub record Few (f : Frame) : Type 0 where
+  pub count : f .count ≤ 4
+  pub items : length (f .items) ≡ 4
+
+bad-few : Few badFrame
+unfolding badFrame
+bad-few = record { count = omega arith; items = refl }
+
+-- a list whose items are tested has them
+tested : (p n : ℕ) (xs : List Item) → T (okFrom p n xs) → n ≤ length xs
+tested p zero xs t = omega arith
+tested p (suc n) [] t = absurd t
+tested p (suc n) (x ∷ xs) t =
+    let h = tested (suc (x .place)) n xs (and-r (p ≤? x .place && okItem x) (okFrom (suc (x .place)) n xs) t) in
+    omega arith
+
+-- every candidate has four slots
+four-slots : (kind : ℕ) (body : List ℕ) → length (byKind kind body .items) ≡ 4
+unfolding byKind readSubmit readForward readShardAppend readExecNotif readExecuted readResponse badFrame
+four-slots kind body =
+    by Four (kind =? 1) (λ t. refl) λ t.
+    by Four (kind =? 2) (λ t. refl) λ t.
+    by Four (kind =? 3) (λ t. refl) λ t.
+    by Four (kind =? 4) (λ t. refl) λ t.
+    by Four (kind =? 5) (λ t. refl) λ t.
+    by Four (kind =? 6) (λ t. refl) λ t. refl
+  where
+    Four : Frame → Type 0
+    Four f = length (f .items) ≡ 4
+
+accept-few : (f : Frame) (s : List ℕ) → length (f .items) ≡ 4 → Few (accept f s .frame)
+unfolding accept valid noFront
+accept-few f s l =
+    by (λ (r : Front). Few (r .frame)) (taken f s)
+    (λ t.
+    let a : Bool = okHead (f .head) (f .count) && okItems (f .count) (f .items) in
+    let b : Bool = twoAt s 0 =? lenOf (f .head) (f .count) in
+    let c : Bool = lenOf (f .head) (f .count) + 2 ≤? length s in
+    let h = tested 0 (f .count) (f .items) (and-r (okHead (f .head) (f .count)) (okItems (f .count) (f .items)) (and-l a b (and-l (a && b) c t))) in
+    record { count = omega arith; items = l })
+    (λ t. bad-few)
+
+pub read-few : (s : List ℕ) → Few (readFrame s)
+unfolding readFrame readFront candidateOf
+read-few s =
+    by Few (readFront s .end =? length s) (λ t. accept-few (candidateOf s) s (four-slots (twoAt s 2) (drop (2 + headerWidth) s))) (λ t. bad-few)
+
+pub few-of : (f : Frame) (s : List ℕ) → f ≡ readFrame s → Few f
+few-of f s e = rw e (read-few s)
+
+-- ---- The reads of a run are at most four
+
+pub record FewReads (rs : Reads) : Type 0 where
+  pub count : rs .count ≤ 4
+  pub items : length (rs .items) ≡ 4
+
+pub noted-few : (rs : Reads) (x : Item) (c : Cell) → FewReads rs → FewReads (noted rs x c)
+unfolding noted
+noted-few rs x c h =
+    by FewReads (x .code =? 0 && rs .count <? 4)
+    (λ t.
+    let k = ltb→lt (rs .count) 4 (and-r (x .code =? 0) (rs .count <? 4) t) in
+    record { count = omega arith; items = length-set (rs .items) (rs .count) (readOf x c) ∙ h .items })
+    (λ t. h)
+
+pub ran-few : (ind : ℕ) (xs : List Item) (r : Running) → FewReads (r .reads) → FewReads (ran ind xs r .reads)
+unfolding ran turn
+ran-few ind [] r h = h
+ran-few ind (x ∷ xs) r h = ran-few ind xs (turn ind x r) (noted-few (r .reads) x _ h)
+
+pub no-reads-few : FewReads noReads
+no-reads-few = record { count = omega arith; items = refl }
+
+-- ---- A step that is taken has its room
+
+pub taken-room : (started : Bool) (room m own ssn last : ℕ) (f : Frame) → judge started room m own ssn last f .answer ≡ 0 → 68 ≤ room
+unfolding judge
+taken-room started room m own ssn last f =
+    by (λ (v : Verdict). v .answer ≡ 0 → 68 ≤ room) (unusable started room)
+    (λ t e. absurd (omega arith))
+    (λ t e. nltb→le room 68 (second (not started) (room <? 68) t))
+  where
+    second : (a b : Bool) → T (not (a || b)) → T (not b)
+    second true b t = absurd t
+    second false b t = t
+
+-- ---- ExecNotif fits
+
+pub notif-room : (own ind : ℕ) (rs : Reads) → FewReads rs → (execNotif own ind rs .count ≤ 4) × (length (frameBytes (execNotif own ind rs)) ≤ 68)
+unfolding execNotif
+notif-room own ind rs h =
+    let k : rs .count ≤ length (rs .items) = omega (arith, h .items, h .count) in
+    let e = length-frame (execNotif own ind rs) refl k in
+    (h .count, omega (arith, e, h .count))
