@@ -1,0 +1,113 @@
+-- The bits of a byte: what adding and taking away a shard's bit does to every other bit, by halving.
+-- Assumes nothing.
+use mathlib.Core.Path.{_≡_, refl, sym, ap, _∙_}
+use mathlib.Core.Bool.{Bool, true, false, _&&_}
+use Prim.Native.Nat.{ℕ, zero, suc, _+_, _-_, _/_, _%_, _^_, _≤_, _<_}
+use native.Mathlib.Nat.{pow-suc, div-one}
+use native.Mathlib.Omega.{arith}
+use lib.Dec.{leb, eqb}
+use lib.Pow.{shr-shr}
+use borrow.Author.Tests.{leb-true, eqb-true, eqb-false, le-leb}
+use Rattle.rules.specs.Lists.{within}
+use Rattle.entry.specs.Model.{bitOf, inMask}
+
+-- the digit k of x, counted from the lowest
+abbrev digit : ℕ → ℕ → ℕ
+digit zero x = x % 2
+digit (suc k) x = digit k (x / 2)
+
+digit-shift : (k x : ℕ) → x / 2 ^ k % 2 ≡ digit k x
+digit-shift zero x = rw (div-one x)
+digit-shift (suc k) x =
+    let e : 1 + k ≡ suc k = omega arith in
+    let f : x / 2 ^ suc k ≡ x / 2 / 2 ^ k = rw (← e) (sym (shr-shr x 1 k)) in
+    rw f (digit-shift k (x / 2))
+
+digit-small : (k x : ℕ) → digit k x < 2
+digit-small zero x = omega arith
+digit-small (suc k) x = digit-small k (x / 2)
+
+-- a digit that is 1 counts
+digit-counts : (k x : ℕ) → digit k x ≡ 1 → 2 ^ k ≤ x
+digit-counts zero x e = omega arith
+digit-counts (suc k) x e = let h = digit-counts k (x / 2) e in omega (arith, pow-suc 2 k)
+
+-- where a digit is 0 there is room for it
+digit-room : (n k x : ℕ) → k < n → x < 2 ^ n → digit k x ≡ 0 → x + 2 ^ k < 2 ^ n
+digit-room zero k x l h e = absurd (omega arith)
+digit-room (suc n) zero x l h e = omega (arith, pow-suc 2 n)
+digit-room (suc n) (suc k) x l h e =
+    let i = digit-room n k (x / 2) (omega arith) (omega (arith, pow-suc 2 n)) e in
+    omega (arith, pow-suc 2 n, pow-suc 2 k)
+
+-- the digit itself after its bit was added, and after it was taken away
+digit-set : (k x : ℕ) → digit k x ≡ 0 → digit k (x + 2 ^ k) ≡ 1
+digit-set zero x e = omega arith
+digit-set (suc k) x e =
+    let h : (x + 2 ^ suc k) / 2 ≡ x / 2 + 2 ^ k = omega (arith, pow-suc 2 k) in
+    rw h (digit-set k (x / 2) e)
+
+digit-clear : (k x : ℕ) → digit k x ≡ 1 → digit k (x - 2 ^ k) ≡ 0
+digit-clear zero x e = omega arith
+digit-clear (suc k) x e =
+    let h : (x - 2 ^ suc k) / 2 ≡ x / 2 - 2 ^ k = omega (arith, pow-suc 2 k) in
+    rw h (digit-clear k (x / 2) e)
+
+-- every other digit stays
+digit-stays : (j k x : ℕ) → (j ≡ k → ⊥) → digit k x ≡ 0 → digit j (x + 2 ^ k) ≡ digit j x
+digit-stays zero zero x d e = absurd (d refl)
+digit-stays zero (suc k) x d e = omega (arith, pow-suc 2 k)
+digit-stays (suc j) zero x d e = let h : (x + 1) / 2 ≡ x / 2 = omega arith in rw h
+digit-stays (suc j) (suc k) x d e =
+    let h : (x + 2 ^ suc k) / 2 ≡ x / 2 + 2 ^ k = omega (arith, pow-suc 2 k) in
+    rw h (digit-stays j k (x / 2) (λ p. d (ap suc p)) e)
+
+-- ---- The same of shards
+
+module _ (mask shard : ℕ) where
+  abbrev at : ℕ
+  at = digit (shard - 1) mask
+
+  in-at : inMask mask shard ≡ (within 1 8 shard && eqb at 1)
+  unfolding inMask
+  in-at = rw (digit-shift (shard - 1) mask)
+
+  pub in-range : inMask mask shard ≡ true → (1 ≤ shard) × (shard ≤ 8)
+  unfolding inMask
+  in-range h = go (eqb (mask / bitOf shard % 2) 1) (leb 1 shard) refl (leb shard 8) refl h
+    where
+      go : (t a : Bool) → a ≡ leb 1 shard → (b : Bool) → b ≡ leb shard 8 → (a && b && t) ≡ true → (1 ≤ shard) × (shard ≤ 8)
+      go t true p true q e = (leb-true 1 shard (sym p), leb-true shard 8 (sym q))
+      go t true p false q e = let z : _≡_ {A = ℕ} 0 1 = cc in absurd (omega arith)
+      go t false p b q e = let z : _≡_ {A = ℕ} 0 1 = cc in absurd (omega arith)
+
+  pub in-one : inMask mask shard ≡ true → at ≡ 1
+  in-one h = go (within 1 8 shard) (eqb at 1) refl (sym in-at ∙ h)
+    where
+      go : (a b : Bool) → b ≡ eqb at 1 → (a && b) ≡ true → at ≡ 1
+      go true true q e = eqb-true at 1 (sym q)
+      go true false q e = let z : _≡_ {A = ℕ} 0 1 = cc in absurd (omega arith)
+      go false b q e = let z : _≡_ {A = ℕ} 0 1 = cc in absurd (omega arith)
+
+  module _ (lo : 1 ≤ shard) (hi : shard ≤ 8) where
+    inside : within 1 8 shard ≡ true
+    inside = rw (le-leb 1 shard lo, le-leb shard 8 hi)
+
+    pub in-is : inMask mask shard ≡ eqb at 1
+    in-is = rw (in-at, inside)
+
+    pub out-zero : inMask mask shard ≡ false → at ≡ 0
+    out-zero h = go (eqb at 1) refl (sym in-is ∙ h)
+      where
+        go : (b : Bool) → b ≡ eqb at 1 → b ≡ false → at ≡ 0
+        go true q e = let z : _≡_ {A = ℕ} 0 1 = cc in absurd (omega arith)
+        go false q e = let d = eqb-false at 1 (sym q) in small d (digit-small (shard - 1) mask)
+          where
+            small : (at ≡ 1 → ⊥) → at < 2 → at ≡ 0
+            small d l = omega arith
+
+    pub bit-room : mask < 256 → inMask mask shard ≡ false → mask + bitOf shard < 256
+    bit-room h f = digit-room 8 (shard - 1) mask (omega arith) h (out-zero f)
+
+  pub bit-counts : inMask mask shard ≡ true → bitOf shard ≤ mask
+  bit-counts h = digit-counts (shard - 1) mask (in-one h)
