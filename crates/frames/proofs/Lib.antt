@@ -1,2 +1,6 @@
 pub mod Cases
 pub mod Puts
+pub mod Lists
+pub mod Round
+pub mod Items
+pub mod Meaning

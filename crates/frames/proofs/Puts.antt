@@ -116,7 +116,7 @@ length-fields (ExecNotif a b) = refl
 length-fields (Executed a) = refl
 length-fields (Response a b) = refl
 
-length-framed : (len : ℕ) (h : Head) (count : ℕ) (xs : List Item) → count ≤ length xs → length (framed len h count xs) ≡ lenOf h count + 2
+pub length-framed : (len : ℕ) (h : Head) (count : ℕ) (xs : List Item) → count ≤ length xs → length (framed len h count xs) ≡ lenOf h count + 2
 length-framed len h count xs k =
     omega (arith, length-append (fieldBytes h) (listBytes (shapeOf h) count xs), length-fields h, length-items (shapeOf h) count xs k)
 

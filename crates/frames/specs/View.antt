@@ -54,6 +54,11 @@ answerOf (ExecNotif shard log-number) = done
 answerOf (Executed log-number) = done
 answerOf (Response client number) = done
 
+-- 01's number where the rules read this
+abbrev pub answerTo : Option F.Frame → ℕ
+answerTo none = breaksRule
+answerTo (some g) = done
+
 -- the rules' frame with these fields and items; none for the refusal
 abbrev pub meant : Head → ℕ → List Item → Option F.Frame
 meant Bad count items = none
@@ -66,6 +71,11 @@ meant (Response client number) count items = some (response client number (reads
 
 unfoldable pub meaning : Frame → Option F.Frame
 meaning f = meant (f .head) (f .count) (f .items)
+
+-- the bytes of what a record means; of the refusal none
+abbrev pub encoded : Option F.Frame → List ℕ
+encoded none = []
+encoded (some g) = F.encode g
 
 -- ---- Records as they lie: an operation's place is its index, a read has no key, keys and values have their size,
 -- and the slots past the count are zero. What is read is so; what is written must be, for the bytes to say all of it.

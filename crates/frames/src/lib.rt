@@ -5,8 +5,9 @@ ghost use mathlib.Core.List.{[], _∷_, _++_};
 ghost use Prim.Native.Nat.{_+_, _*_, _<_, _≤_};
 ghost use lib.ListN.{length, take, drop, set};
 ghost use lib.Seq.{sets};
-ghost use Rattle.rules.specs.Frames.{two, four, byteAt, twoAt, fourAt};
+ghost use Rattle.rules.specs.Frames.{two, four, byteAt, twoAt, fourAt, decode};
 ghost use Rattle.frames.specs.Frames.{kindOf, fieldBytes, fieldWidth, shapeOf, width, itemBytes, slotBytes, listBytes, headerBytes, framed, frameBytes, lenOf, okItem, okItems, okWindow, okHead, valid, noItem, badFrame, itemAt, slotAt, slots, listed, readSubmit, readForward, readShardAppend, readExecNotif, readExecuted, readResponse, candidateOf, noFront, accept, readFront, readFrame, Put, writtenOf, laidOf};
+ghost use Rattle.frames.specs.View.{answerOf, answerTo, meaning};
 
 // The place of an entry in the log: "log number 0..255", two bytes in a frame.
 pub type LogNumber = u16;
@@ -481,9 +482,10 @@ pub fn read_front(s: &[u8]) -> Front
     accepted(f, s)
 }
 
-// The frame that the slice is, or the refusal: "Nothing may follow a frame."
+// The frame that the slice is, or the refusal: "Nothing may follow a frame." Its number and its values are those of the rules' reading.
 pub fn read_frame(s: &[u8]) -> Frame
     ensures { λ r. ⌜ r ≡ readFrame (now (s .entry)) ⌝ }
+    ensures { λ r. ⌜ (answerOf (r .head) ≡ answerTo (decode (now (s .entry)))) × (meaning r ≡ decode (now (s .entry))) ⌝ }
 {
     let front = read_front(s);
     let frame = front.frame;
