@@ -12,9 +12,10 @@ use Rattle.rules.specs.Transactions.{Write}
 use Rattle.rules.specs.Frames.{Frame}
 use Rattle.rules.specs.Board.{Entry, writes, nextNumber, newEntry}
 use Rattle.rules.specs.Shard.{Shard}
+use Rattle.rules.specs.Kept.{ofClient}
 use Rattle.rules.proofs.Kept.{writes-snoc}
 use Rattle.safety.specs.World.{board, Packet, ReplyTaken}
-use Rattle.safety.specs.Claim.{ofClient, invocations}
+use Rattle.safety.specs.Claim.{invocations}
 use Rattle.safety.specs.Machine.{From, from-client, from-board}
 use Rattle.safety.proofs.Lists.{Changed, there, elsewhere, changed-cases, changed-map, Under, under-snoc, at-snoc-old, all-map}
 use Rattle.safety.proofs.Numbered.{next-first}

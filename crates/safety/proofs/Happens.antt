@@ -21,12 +21,13 @@ use Rattle.rules.specs.Session as C
 use Rattle.rules.specs.Kept.{SessionKept}
 use Rattle.rules.proofs.Lists.{by, if-yes, if-no}
 use Rattle.rules.proofs.Frames.{decode-spells}
+use Rattle.rules.proofs.Steps.{ready}
 use Rattle.rules.proofs.Session.{SessionGood, invoke-good, retry-good}
 use Rattle.rules.proofs.Session as CP
 use Rattle.safety.specs.World.{Address, board, shard, client, Packet, posted, ReplyTaken, Replied, World, rules, Choice, invoke, retry, deliver, remembered, start, afterBoard, afterShard, afterCall, afterReply, arrive, arriveSent, next, after, run}
 use Rattle.safety.proofs.Lists.{changed-own}
 use Rattle.safety.proofs.Flight.{InFlight}
-use Rattle.safety.proofs.Local.{usable, afterInvoke, Invokes, not-invoked, invokes, invoke-law, Retries, not-retried, retries, retry-law, Hears, not-heard, hears, response-law}
+use Rattle.safety.proofs.Local.{afterInvoke, Invokes, not-invoked, invokes, invoke-law, Retries, not-retried, retries, retry-law, Hears, not-heard, hears, response-law}
 
 -- ---- Worlds after a call that was taken, and after a reply that was
 
@@ -151,13 +152,13 @@ flown sent which p f a d =
 arrive-happens : (n : ℕ) (w : World rules) (to : Address) (bytes out : List ℕ) → ((f : Frame) → decode bytes ≡ some f → InFlight (w .sent) to f) → Happened n w (arrive rules n w to bytes out)
 unfolding arrive told B.step B.readStep S.step S.readStep C.step C.readStep
 arrive-happens n w (board i) bytes out x =
-    by (λ o. Happened n w (afterBoard rules n w i o)) _ (λ t. rw (board-refused n w i notUsable) nothing-happened) (λ t. go (usable (w .boards i .started) _ t) (decode bytes) x)
+    by (λ o. Happened n w (afterBoard rules n w i o)) _ (λ t. rw (board-refused n w i notUsable) nothing-happened) (λ t. go (ready (w .boards i .started) _ t) (decode bytes) x)
   where
     go : T (w .boards i .started) → (o : Option Frame) → ((f : Frame) → o ≡ some f → InFlight (w .sent) (board i) f) → Happened n w (afterBoard rules n w i (B.readStep (w .boards i) o))
     go t none x = rw (board-refused n w i breaksRule) nothing-happened
     go t (some f) x = board-stepped i f (x f refl) t
 arrive-happens n w (shard j) bytes out x =
-    by (λ o. Happened n w (afterShard rules n w j o)) _ (λ t. rw (shard-refused n w j notUsable) nothing-happened) (λ t. go (usable (w .shards j .started) _ t) (decode bytes) x)
+    by (λ o. Happened n w (afterShard rules n w j o)) _ (λ t. rw (shard-refused n w j notUsable) nothing-happened) (λ t. go (ready (w .shards j .started) _ t) (decode bytes) x)
   where
     go : T (w .shards j .started) → (o : Option Frame) → ((f : Frame) → o ≡ some f → InFlight (w .sent) (shard j) f) → Happened n w (afterShard rules n w j (S.readStep (w .shards j) o))
     go t none x = rw (shard-refused n w j breaksRule) nothing-happened

@@ -12,9 +12,10 @@ use Rattle.rules.specs.Transactions.{Operation, Write, Placed, Read, storeAfter
 use Rattle.rules.specs.Frames.{Frame, submit, forward, shardAppend, execNotif, executed, response}
 use Rattle.rules.specs.Board.{Entry, PRE, isEXE, writes, touching}
 use Rattle.rules.specs.Shard.{Shard}
+use Rattle.rules.specs.Kept.{ofClient}
 use Rattle.rules.proofs.Gather.{gather}
 use Rattle.safety.specs.World.{Address, board, shard, client, Packet, ReplyTaken}
-use Rattle.safety.specs.Claim.{ofClient, invocations, through, Touching, ReplyRight}
+use Rattle.safety.specs.Claim.{invocations, through, Touching, ReplyRight}
 use Rattle.safety.specs.Machine.{All}
 use Rattle.safety.proofs.Lists.{Under}
 use Rattle.safety.proofs.Running.{AgreeOn, own, seen}

@@ -2,7 +2,7 @@
 -- outstanding. Nothing here knows a world; here alone are the tests of the rules taken apart for demand 3.
 -- Assumes nothing.
 use mathlib.Core.Path.{_≡_, refl}
-use mathlib.Core.Bool.{Bool, true, false, not, _||_}
+use mathlib.Core.Bool.{Bool, true, false, not}
 use mathlib.Core.List.{List, [], _∷_, map}
 use mathlib.Core.Option.{Option, none, some}
 use Prim.Native.Nat.{ℕ, zero, suc, _≤_}
@@ -20,6 +20,7 @@ use Rattle.rules.specs.Shard as S
 use Rattle.rules.specs.Session as C
 use Rattle.rules.proofs.Lists.{by, yes-of, nothing, or-left, or-right}
 use Rattle.safety.proofs.Lists.{at-snoc-new}
+use Rattle.rules.proofs.Steps.{ready}
 use Rattle.safety.specs.Machine.{All, Sends, sends-forward, sends-append, sends-executed, sends-response, From, from-client, from-board, by-notif, by-executed, Moved, same, grown, marked, Ran, stayed, went}
 
 -- ---- Boards
@@ -174,10 +175,6 @@ shard-law s (response c k rs) = still _ s (response c k rs)
 
 -- ---- Sessions
 
-pub usable : (started small : Bool) → T (not (not started || small)) → T started
-usable true c t = tt
-usable false c t = absurd t
-
 abbrev pub afterInvoke : List Operation → C.Session → C.Session
 afterInvoke os s = C.withWindow (C.invoked os (s .window)) s
 
@@ -190,7 +187,7 @@ pub data Invokes (s : C.Session) (list : List C.Asked) : Outcome C.Session → T
 pub invoke-law : (s : C.Session) (list : List C.Asked) (out : ℕ) → Invokes s list (C.invoke s list out)
 unfolding C.invoke C.invokeStep
 invoke-law s list out =
-    by (Invokes s list) _ (λ t. not-invoked notUsable (omega arith)) (λ t. go (usable (s .started) _ t) (C.allMeant list) refl)
+    by (Invokes s list) _ (λ t. not-invoked notUsable (omega arith)) (λ t. go (ready (s .started) _ t) (C.allMeant list) refl)
   where
     go : T (s .started) → (o : Option (List Operation)) → C.allMeant list ≡ o → Invokes s list (C.invokeStep s o)
     go u none e = not-invoked breaksRule (omega arith)
@@ -209,7 +206,7 @@ pub data Retries (s : C.Session) (number : ℕ) : Outcome C.Session → Type 0 w
 pub retry-law : (s : C.Session) (number out : ℕ) → Retries s number (C.retry s number out)
 unfolding C.retry C.sendAgain
 retry-law s number out =
-    by (Retries s number) _ (λ t. not-retried notUsable (omega arith)) (λ t. go (usable (s .started) _ t) (C.operationsOf number (s .window .outstanding)) refl)
+    by (Retries s number) _ (λ t. not-retried notUsable (omega arith)) (λ t. go (ready (s .started) _ t) (C.operationsOf number (s .window .outstanding)) refl)
   where
     go : T (s .started) → (o : Option (List Operation)) → C.operationsOf number (s .window .outstanding) ≡ o → Retries s number (C.sendAgain s number o)
     go t none e = not-retried tooLate (omega arith)

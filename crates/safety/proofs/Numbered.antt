@@ -4,7 +4,7 @@ use mathlib.Core.Path.{_≡_, refl, sym, ap, _∙_}
 use mathlib.Core.Bool.{Bool, true, false, not}
 use mathlib.Core.List.{List, [], _∷_}
 use mathlib.Core.Option.{none, some}
-use Prim.Native.Nat.{ℕ, zero, suc, _+_, _≤_, max}
+use Prim.Native.Nat.{ℕ, zero, suc, _+_}
 use native.Mathlib.Omega.{arith}
 use lib.Dec.{T, eqb}
 use lib.ListN.{length}
@@ -12,8 +12,10 @@ use mir.Facts.{eqb-yes}
 use Rattle.rules.specs.Lists.{if_then_else_, at, snoc}
 use Rattle.rules.specs.Transactions.{Operation, Write}
 use Rattle.rules.specs.Board.{nextNumber}
-use Rattle.rules.proofs.Lists.{by, if-yes, if-no, nothing}
-use Rattle.safety.specs.Claim.{ofClient, invocations}
+use Rattle.rules.specs.Kept.{ofClient, Counted}
+use Rattle.rules.proofs.Lists.{if-yes, if-no, nothing}
+use Rattle.rules.proofs.Numbers.{next-counts}
+use Rattle.safety.specs.Claim.{invocations}
 use Rattle.safety.proofs.Lists.{Under, under-snoc}
 
 -- ---- A client's entries, when a log grows
@@ -65,38 +67,15 @@ invoked-grows c past more u k w e =
     let i = invoked-at c 0 past k w e in
     at-invoked c 0 more k w (record { client = i .client; number = i .number; operations = u k (w .operations) (i .operations) })
 
--- ---- "every number up to high is held"
+-- ---- High + 1 counts them
 
-top : List Write → ℕ
-top [] = 0
-top (w ∷ ws) = max (suc w.number) (top ws)
+counted : (k : ℕ) (l : List Write) → ((p : ℕ) (w : Write) → at l p ≡ some w → w .number ≡ k + p) → Counted k l
+counted k [] h = tt
+counted k (w ∷ l) h = (h 0 w refl ∙ omega arith, counted (suc k) l (λ p v e. h (suc p) v e ∙ omega arith))
 
-high-top : (c : ℕ) (ws : List Write) → nextNumber c ws ≡ top (ofClient c ws)
-unfolding top
-high-top c [] = refl
-high-top c (w ∷ ws) = rw (high-top c ws) (go (eqb w.client c))
-  where
-    go : (b : Bool) → (if b then max (suc w.number) (top (ofClient c ws)) else top (ofClient c ws)) ≡ top (if b then w ∷ ofClient c ws else ofClient c ws)
-    go true = unfold if_then_else_ top in refl
-    go false = unfold if_then_else_ in refl
-
-top-counts : (z : ℕ) (ws : List Write) → ((k : ℕ) (w : Write) → at ws k ≡ some w → w .number ≡ z + k) → 1 ≤ length ws → top ws ≡ z + length ws
-unfolding top
-top-counts z [] h l = absurd (omega arith)
-top-counts z (w ∷ []) h l = let x = h 0 w refl in omega arith
-top-counts z (w ∷ v ∷ ws) h l =
-    let x = h 0 w refl in
-    let y = top-counts (suc z) (v ∷ ws) (λ k u e. let g = h (suc k) u e in omega arith) (omega arith) in
-    let y2 : max (suc v.number) (top ws) ≡ suc z + length (v ∷ ws) = y in
-    omega arith
-
-pub high-counts : (c : ℕ) (past : List (List Operation)) (ws : List Write) → Under (ofClient c ws) (invocations c 0 past) → nextNumber c ws ≡ length (ofClient c ws)
-unfolding top
-high-counts c past ws u = high-top c ws ∙ go (ofClient c ws) (λ k w e. invoked-at c 0 past k w (u k w e) .number)
-  where
-    go : (l : List Write) → ((k : ℕ) (w : Write) → at l k ≡ some w → w .number ≡ 0 + k) → top l ≡ length l
-    go [] h = refl
-    go (w ∷ l) h = let z = top-counts 0 (w ∷ l) h (omega arith) in omega arith
+-- where a client's entries are its first invocations, they are numbered from 0 on
+pub firsts-counted : (c : ℕ) (past : List (List Operation)) (ws : List Write) → Under (ofClient c ws) (invocations c 0 past) → Counted 0 (ofClient c ws)
+firsts-counted c past ws u = counted 0 (ofClient c ws) (λ p w e. invoked-at c 0 past p w (u p w e) .number)
 
 -- ---- The next invocation, taken into the log
 
@@ -108,7 +87,7 @@ next-first c past ws w u num ops = go (eqb (w .client) c) refl
     go : (b : Bool) → eqb (w .client) c ≡ b → Under (ofClient c (snoc ws w)) (invocations c 0 past)
     go true e =
         let d : w .client ≡ c = eqb-yes {a = w .client} (rw e tt) in
-        let k : w .number ≡ length (ofClient c ws) = num d ∙ high-counts c past ws u in
+        let k : w .number ≡ length (ofClient c ws) = num d ∙ next-counts c ws (firsts-counted c past ws u) in
         rw (client-yes c w ws (rw e tt)) (under-snoc (ofClient c ws) (invocations c 0 past) w u
         (at-invoked c 0 past (length (ofClient c ws)) w (record { client = d; number = k ∙ omega arith; operations = rw (← k) (ops d) })))
     go false e = rw (client-no c w ws (rw e tt)) u

@@ -138,9 +138,6 @@ count-stable m j L M u (suc q) h =
 
 -- ---- A shard's keys stand still where its count does
 
-pub count-one : (m j : ℕ) (L : List Write) (q : ℕ) (e : Write) → at L q ≡ some e → T (touches m j e.operations) → touching m j L (suc q) ≡ suc (touching m j L q)
-count-one m j L q e a t = rw a (if-yes (touches m j e.operations) (suc (touching m j L q)) (touching m j L q) t)
-
 one-more : (m j : ℕ) (o : Option Write) (c : ℕ) → c ≤ oneMore m j o c
 one-more m j none c = omega arith
 one-more m j (some e) c = by (λ x. c ≤ x) (touches m j e.operations) (λ t. omega arith) (λ t. omega arith)

@@ -14,14 +14,14 @@ use Rattle.rules.specs.Outcomes.{Outcome, taken, refuse}
 use Rattle.rules.specs.Board as B
 use Rattle.rules.specs.Shard as S
 use Rattle.rules.specs.Session as C
-use Rattle.rules.specs.Kept.{Kept, SizesKept, ShardKept, SessionKept}
+use Rattle.rules.specs.Kept.{ofClient, Kept, SizesKept, ShardKept, SessionKept}
 use Rattle.rules.proofs.Lists.{by, and-l, and-r, nothing}
 use Rattle.rules.proofs.Obeys as O
 use Rattle.rules.proofs.Kept as KP
 use Rattle.rules.proofs.Shard as SP
 use Rattle.rules.proofs.Session as CP
 use Rattle.safety.specs.World.{World, rules, Choice, start, run}
-use Rattle.safety.specs.Claim.{ofClient, invocations, through, keysOf, ReplyRight, logOf, Safe, Demand3}
+use Rattle.safety.specs.Claim.{invocations, through, keysOf, ReplyRight, logOf, Safe, Demand3}
 use Rattle.safety.proofs.Lists.{Under, under-prefix, all-at}
 use Rattle.safety.proofs.Running.{own, store-stable}
 use Rattle.safety.proofs.Invariant.{ShardRight, logsOf}

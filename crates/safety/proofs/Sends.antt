@@ -10,12 +10,12 @@ use Rattle.rules.specs.Lists.{at, has}
 use Rattle.rules.specs.Transactions.{Write, Placed, touches, placed, keep}
 use Rattle.rules.specs.Frames.{Frame, executed, response}
 use Rattle.rules.specs.Board.{Entry, isEXE, writes, touching}
+use Rattle.rules.proofs.Counts.{touching-one}
 use Rattle.rules.proofs.Gather.{gather}
 use Rattle.rules.proofs.Obeys.{all-left}
 use Rattle.rules.proofs.Kept.{at-writes}
 use Rattle.safety.specs.World.{board, client, recipient}
 use Rattle.safety.specs.Machine.{Sends, sends-forward, sends-append, sends-executed, sends-response}
-use Rattle.safety.proofs.Running.{count-one}
 use Rattle.safety.proofs.Invariant.{Logs, Past, sees, RightTo, logged, job, ended, told, heardOf, Busy, Sound, idle, busy}
 
 -- where Executed goes
@@ -52,7 +52,7 @@ sends-right n m L H i log lo hi u s _ (sends-append j ind e l h r) =
     let v : L n ≡ writes log = rw d at u in
     let a : at (L n) ind ≡ some (e .write) = rw v (at-writes log ind e h) in
     let t = remains-touched m (L n) ind e (s ind e h) j r in
-    let c : touching m j (writes log) (suc ind) ≡ suc (touching m j (L n) ind) = rw v (count-one m j (writes log) ind (e .write) (at-writes log ind e h) t) in
+    let c : touching m j (writes log) (suc ind) ≡ suc (touching m j (L n) ind) = rw v (touching-one m j (writes log) ind (e .write) (at-writes log ind e h) t) in
     job j ind _ _ (e .write) a t c refl
 sends-right n m L H i log lo hi u s _ (sends-executed ind e l h r) =
     let y = ends m (L n) ind e (s ind e h) r in

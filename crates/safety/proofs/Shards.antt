@@ -14,12 +14,13 @@ use Rattle.rules.specs.Frames.{Frame, execNotif, obeys}
 use Rattle.rules.specs.Board.{touching}
 use Rattle.rules.specs.Shard.{Shard}
 use Rattle.rules.specs.Shard as S
+use Rattle.rules.proofs.Counts.{touching-one}
 use Rattle.rules.proofs.Gather.{gather}
 use Rattle.safety.specs.World.{shard, Packet, posted, ReplyTaken}
 use Rattle.safety.specs.Claim.{through}
 use Rattle.safety.specs.Machine.{Ran, stayed, went}
 use Rattle.safety.proofs.Lists.{changed-own, changed-all}
-use Rattle.safety.proofs.Running.{AgreeOn, own, project, project-other, part-reads, count-one, count-rises, gap}
+use Rattle.safety.proofs.Running.{AgreeOn, own, project, project-other, part-reads, count-rises, gap}
 use Rattle.safety.proofs.Flight.{posted-fly}
 use Rattle.safety.proofs.Invariant.{Logs, Past, sees, RightTo, job, heard, ShardRight, Core}
 use Rattle.safety.proofs.Boards.{add-sent}
@@ -33,7 +34,7 @@ module _ (m : ℕ) (G : List Write) (j : ℕ) (s : Shard) (old : ShardRight m G 
       go (yes h) = h
       go (no h) =
           let x = count-rises m j G (suc ind) (through (s .lastRun)) (omega arith) in
-          let y = count-one m j G ind w a t in
+          let y = touching-one m j G ind w a t in
           let z = old .counted in absurd (omega arith)
 
   before : AgreeOn (own m j) (s .store) (storeAfterLog G ind)
@@ -44,7 +45,7 @@ module _ (m : ℕ) (G : List Write) (j : ℕ) (s : Shard) (old : ShardRight m G 
   after =
       record {
         ran = λ p e. let d : ind ≡ p = cc in record { write = w; stands = rw (← d) a; touching = t };
-        counted = sym (count-one m j G ind w a t);
+        counted = sym (touching-one m j G ind w a t);
         own-keys = rw a (project (own m j) ind (placed 0 (w .operations)) (s .store) (storeAfterLog G ind) before);
         other-keys = λ k h. project-other (own m j) ind (placed 0 (w .operations)) (s .store) k h ∙ old .other-keys k h;
       }

@@ -12,6 +12,7 @@ use lib.Dec.{T}
 use Rattle.rules.specs.Lists.{if_then_else_, _=?_, at}
 use Rattle.rules.specs.Transactions.{Operation, Write, Read, Store, shardOf, touches, storeAfterLog, readsInLog}
 use Rattle.rules.specs.Board.{writes}
+use Rattle.rules.specs.Kept.{ofClient}
 use Rattle.safety.specs.World.{World, rules, ReplyTaken, Choice, run}
 
 -- ---- The words of the claim
@@ -24,11 +25,6 @@ logOf w i = writes (w .boards i .log)
 pub record Prefix (s t : List Write) : Type 0 where
   pub rest : List Write
   pub whole : s ++ rest ≡ t
-
--- a client's entries, in order
-abbrev pub ofClient : ℕ → List Write → List Write
-ofClient c [] = []
-ofClient c (w ∷ ws) = if w.client =? c then w ∷ ofClient c ws else ofClient c ws
 
 -- a client's invocations as writes, numbered from k on
 abbrev pub invocations : ℕ → ℕ → List (List Operation) → List Write
