@@ -144,7 +144,7 @@ reply-happens n w c _ _ x g (not-heard f r l) = rw (reply-refused w c r l) nothi
 reply-happens n w c _ _ x g (hears k rs) = rw (reply-taken w c k rs) (client-answered c k rs x g)
 
 -- bytes that are a frame's arrive, or bytes that are none's
-flown : (sent : List Packet) (which : ℕ) (p : Packet) (f : Frame) → at sent which ≡ some p → decode (p .bytes) ≡ some f → InFlight sent (p .to) f
+pub flown : (sent : List Packet) (which : ℕ) (p : Packet) (f : Frame) → at sent which ≡ some p → decode (p .bytes) ≡ some f → InFlight sent (p .to) f
 flown sent which p f a d =
     let s = decode-spells (p .bytes) f d in
     record { which = which; stands = rw (s .bytes) a; rules = s .rules }

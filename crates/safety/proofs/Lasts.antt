@@ -29,7 +29,7 @@ use Rattle.safety.proofs.Known.{BoardKnown, ShardKnown, SessionKnown, e
 use Rattle.safety.proofs.Sessions.{kept-operations, invoke-known, answer-known, past-core, submit-right}
 
 -- the frame that arrives is right
-right : (n m : ℕ) (w : World rules) → Known n m w → (to : Address) (f : Frame) → InFlight (w .sent) to f → RightTo n m (logsOf (entriesOf (w .boards))) (w .invoked) to f
+pub right : (n m : ℕ) (w : World rules) → Known n m w → (to : Address) (f : Frame) → InFlight (w .sent) to f → RightTo n m (logsOf (entriesOf (w .boards))) (w .invoked) to f
 right n m w k to f x = arrives (RightTo n m (logsOf (entriesOf (w .boards))) (w .invoked)) (w .sent) to f (k .good .core .flight) x
 
 board-lasts : (n m : ℕ) (w : World rules) (i : ℕ) (f : Frame) → Known n m w → InFlight (w .sent) (board i) f → T (w .boards i .started)

@@ -18,8 +18,8 @@ use Rattle.rules.specs.Outcomes.{Outcome, taken, refuse}
 use Rattle.rules.specs.Board.{Entry, Board, isEXE, writes, find, holding, raiseFloor, newEntry, append, settle, forwardOf, shardAppendOf, backward, onward, serveNew, serveHeld, serveFound, submitStep, forwardStep, heardFrom, execNotifStep, finished, executedStep, frameStep}
 use Rattle.rules.specs.Shard as S
 use Rattle.rules.specs.Session as C
-use Rattle.rules.proofs.Lists.{by, yes-of, nothing, or-left, or-right}
-use Rattle.safety.proofs.Lists.{at-snoc-new}
+use Rattle.rules.proofs.Lists.{by, yes-of, or-left, or-right}
+use Rattle.safety.proofs.Lists.{at-snoc-new, at-set-there}
 use Rattle.rules.proofs.Steps.{ready}
 use Rattle.safety.specs.Machine.{All, Sends, sends-forward, sends-append, sends-executed, sends-response, From, from-client, from-board, by-notif, by-executed, Moved, same, grown, marked, Ran, stayed, went}
 
@@ -35,11 +35,6 @@ pub record BoardLaw (b : Board) (f : Frame) (o : Outcome Board) : Type 0 where
 refused : (number : ℕ) (b : Board) (f : Frame) → BoardLaw b f (refuse number b)
 unfolding refuse
 refused number b f = record { moved = same [] tt; started = refl; n = refl; m = refl; own = refl }
-
-at-set : {A : Type 0} (l : List A) (q : ℕ) (x y : A) → at l q ≡ some x → at (set l q y) q ≡ some y
-at-set [] q x y e = nothing e
-at-set (z ∷ l) zero x y e = refl
-at-set (z ∷ l) (suc q) x y e = at-set l q x y e
 
 back-sends : (b : Board) (log : List Entry) (q : ℕ) (e : Entry) → 1 ≤ b .own → at log q ≡ some e → T (isEXE (e .status))
     → Sends (b .n) (b .m) (b .own) log (backward b q e)
@@ -112,7 +107,7 @@ module _ (b : Board) (lo : 1 ≤ b .own) where
       record {
         moved = marked ind e (heardFrom j rs e) _ a (by-notif j rs (yes-of (has j (e .remaining)) t))
             (by (All (Sends (b .n) (b .m) (b .own) (set (b .log) ind (heardFrom j rs e)))) _
-            (λ v. (back-sends b (set (b .log) ind (heardFrom j rs e)) ind (heardFrom j rs e) lo (at-set (b .log) ind e (heardFrom j rs e) a) v, tt)) (λ v. tt));
+            (λ v. (back-sends b (set (b .log) ind (heardFrom j rs e)) ind (heardFrom j rs e) lo (at-set-there (b .log) ind e (heardFrom j rs e) a) v, tt)) (λ v. tt));
         started = refl;
         n = refl;
         m = refl;
@@ -127,7 +122,7 @@ module _ (b : Board) (lo : 1 ≤ b .own) where
       by (BoardLaw b (executed ind rs)) _ (λ u. refused _ b (executed ind rs)) λ u.
       record {
         moved = marked ind e (finished rs e) _ a (by-executed rs)
-            (back-sends b (set (b .log) ind (finished rs e)) ind (finished rs e) lo (at-set (b .log) ind e (finished rs e) a) (unfold finished in tt), tt);
+            (back-sends b (set (b .log) ind (finished rs e)) ind (finished rs e) lo (at-set-there (b .log) ind e (finished rs e) a) (unfold finished in tt), tt);
         started = refl;
         n = refl;
         m = refl;
