@@ -1,3 +1,6 @@
-pub mod Read
-pub mod Laws
-pub mod Refine
+pub mod Walk
+pub mod Fits
+pub mod Ways
+pub mod Runs
+pub mod Meaning
+pub mod Promises

@@ -1,6 +1,6 @@
 -- What the code does with the records as they lie: every field and every byte, for every bit pattern.
 -- Assumes nothing.
-use mathlib.Core.Bool.{Bool, true, false, not, _&&_, _||_}
+use mathlib.Core.Bool.{Bool, true, false, not, _&&_}
 use mathlib.Core.List.{List, [], _∷_, _++_}
 use Prim.Native.Nat.{ℕ, _+_, _%_}
 use lib.ListN.{length, getD, take, drop, set, replicate}
@@ -47,18 +47,21 @@ allMine m own xs = every (mine m own) xs
 abbrev pub refused : ℕ → Verdict
 refused answer = record { answer = answer; «log_number» = 0; sn = 0 }
 
--- refusals 1, 2, 7, 4, 8
-unfoldable pub judgeHead : ℕ → ℕ → ℕ → ℕ → List Item → Head → Verdict
-judgeHead m own ssn last xs Bad = refused breaksRule
-judgeHead m own ssn last xs (Submit client number ack) = refused notForMe
-judgeHead m own ssn last xs (Forward ind client number ack) = refused notForMe
-judgeHead m own ssn last xs (ShardAppend shard ind sn) =
-    if not (shard =? own) then refused notForMe else
+-- a ShardAppend to this group: refusals 7, 4, 8; last is the last run and 1 more
+unfoldable pub judgeAppend : ℕ → ℕ → ℕ → ℕ → List Item → ℕ → ℕ → Verdict
+judgeAppend m own ssn last xs ind sn =
     if sn ≤? ssn then refused tooLate else
     if ssn + 1 <? sn then refused tooEarly else
     if not (allMine m own xs) then refused doesNotFit else
     if ind <? last then refused doesNotFit else
     record { answer = done; «log_number» = ind; sn = sn }
+
+-- refusals 1, 2 before these
+unfoldable pub judgeHead : ℕ → ℕ → ℕ → ℕ → List Item → Head → Verdict
+judgeHead m own ssn last xs Bad = refused breaksRule
+judgeHead m own ssn last xs (Submit client number ack) = refused notForMe
+judgeHead m own ssn last xs (Forward ind client number ack) = refused notForMe
+judgeHead m own ssn last xs (ShardAppend shard ind sn) = if shard =? own then judgeAppend m own ssn last xs ind sn else refused notForMe
 judgeHead m own ssn last xs (ExecNotif shard ind) = refused notForMe
 judgeHead m own ssn last xs (Executed ind) = refused notForMe
 judgeHead m own ssn last xs (Response client number) = refused notForMe
@@ -131,14 +134,18 @@ after s ind sn r =
       frames = execNotif s.own ind (r .reads) ∷ [];
     }
 
-unfoldable pub settled : Shard → Frame → Verdict → Outcome
-settled s f v =
-    if v.answer =? 0
-    then after s v.«log_number» v.sn (ran v.«log_number» (take (f .count) (f .items)) (record { cells = s.cells; reads = noReads }))
+-- the operations run, or all stays as it was
+unfoldable pub settled : Shard → List Item → Verdict → Outcome
+settled s xs v =
+    if v.answer =? done
+    then after s v.«log_number» v.sn (ran v.«log_number» xs (record { cells = s.cells; reads = noReads }))
     else record { shard = s; answer = v.answer; frames = [] }
 
+abbrev pub itemsOf : Frame → List Item
+itemsOf f = take (f .count) (f .items)
+
 unfoldable pub outcome : Shard → List ℕ → ℕ → Outcome
-outcome s bytes room = settled s (readFrame bytes) (judge s.started room s.m s.own s.ssn s.«last_run» (readFrame bytes))
+outcome s bytes room = settled s (itemsOf (readFrame bytes)) (judge s.started room s.m s.own s.ssn s.«last_run» (readFrame bytes))
 
 -- the bytes of the frames, back to back
 abbrev pub bytesOf : List Frame → List ℕ

@@ -1,34 +1,25 @@
 -- What a group's record means in the rules' words, and what every start gives and every step keeps.
 -- Assumes nothing.
 use mathlib.Core.Path.{_≡_}
-use mathlib.Core.Bool.{Bool, true, false}
+use mathlib.Core.Bool.{false, _&&_}
 use mathlib.Core.List.{List, map}
 use mathlib.Core.Option.{Option, none, some}
-use Prim.Native.Nat.{ℕ, zero, suc, _≤_}
+use Prim.Native.Nat.{ℕ, zero, suc}
 use lib.Dec.{T}
-use lib.ListN.{length, take}
-use Rattle.rules.specs.Lists.{if_then_else_, _=?_, within}
-use Rattle.rules.specs.Transactions.{get, put, Placed, Read, Store}
+use lib.ListN.{length}
+use Rattle.rules.specs.Lists.{if_then_else_, within}
+use Rattle.rules.specs.Transactions.{Read, Store}
 use Rattle.rules.specs.Transactions as R
+use Rattle.rules.specs.Outcomes.{frameCount, byteCount, outAfter}
 use Rattle.rules.specs.Shard as S
-use Rattle.frames.specs.declared.Item.{Item}
+use Rattle.rules.specs.Kept.{ShardKept}
+use Rattle.frames.specs.View.{readItem, filled}
 use Rattle.shard.specs.declared.Cell.{Cell}
 use Rattle.shard.specs.declared.Reads.{Reads}
 use Rattle.shard.specs.declared.Shard.{Shard}
+use Rattle.shard.specs.declared.Started.{Started}
+use Rattle.shard.specs.declared.Stepped.{Stepped}
 use Rattle.shard.specs.Model.{absent, cellAt}
-
--- ---- Items
-
-unfoldable pub placedOf : Item → Placed
-placedOf x = record { place = x.place; operation = if x.code =? 0 then get x.key else put x.key x.value }
-
-unfoldable pub readMeant : Item → Read
-readMeant x = record { place = x.place; value = if x.code =? 0 then none else some x.value }
-
-unfoldable pub viewReads : Reads → List Read
-viewReads rs = map readMeant (take rs.count rs.items)
-
--- ---- A group
 
 unfoldable pub viewCell : Cell → Option R.Cell
 viewCell c = if c.present then some (record { value = c.value; ind = c.«log_number» }) else none
@@ -45,9 +36,30 @@ unfoldable pub viewShard : Shard → S.Shard
 viewShard s =
     record { started = s.started; m = s.m; own = s.own; store = viewStore s.cells; ssn = s.ssn; lastRun = viewLast s.«last_run» }
 
--- a group that was started has its place among 1..8, and what is absent is zero
+-- the record of some reads, as ExecNotif carries them
+unfoldable pub readsRecord : List Read → Reads
+readsRecord rs = record { count = length rs; items = filled 4 (map readItem rs) }
+
+-- What every start gives and every step keeps: the cells are all there, the setup is one that starts, what is absent is zero, and
+-- the rules' own values are kept.
 pub record Held (s : Shard) : Type 0 where
   pub size : length (s .cells) ≡ 256
-  pub setup : T (s .started) → (1 ≤ s .m) × (s .m ≤ 8) × (1 ≤ s .own) × (s .own ≤ s .m)
+  pub setup : T (s .started) → T (within 1 8 (s .m) && within 1 (s .m) (s .own))
   pub blank : (key : ℕ) → cellAt (s .cells) key .present ≡ false → cellAt (s .cells) key ≡ absent
-  pub values : (key : ℕ) → cellAt (s .cells) key .value ≤ 4294967295
+  pub kept : ShardKept (viewShard s)
+
+-- What a start means: it is held, and it is the rules' start.
+pub record StartMeans (m own : ℕ) (r : Started) : Type 0 where
+  pub held : Held (r .shard)
+  pub answer : r .answer ≡ S.start m own .answer
+  pub state : viewShard (r .shard) ≡ S.start m own .state
+
+-- What a step of a group that is held means: it is held again, and it is the rules' step on what the group means: its answer, the group
+-- as it then stands, the counts of frames and bytes, and every byte left in the out area.
+pub record StepMeans (s : Shard) (given out : List ℕ) (r : Stepped) (left : List ℕ) : Type 0 where
+  pub held : Held (r .shard)
+  pub answer : r .answer ≡ S.step (viewShard s) given (length out) .answer
+  pub state : viewShard (r .shard) ≡ S.step (viewShard s) given (length out) .state
+  pub frames : r .frames ≡ frameCount (S.step (viewShard s) given (length out))
+  pub bytes : r .bytes ≡ byteCount (S.step (viewShard s) given (length out))
+  pub written : left ≡ outAfter (S.step (viewShard s) given (length out) .frames) out

@@ -1,23 +1,28 @@
-// A shard group, by value: its cells, its start and its step.
+// A shard group, by value: its cells, its start and its step. What the functions do stands in specs/Model.antt, what that
+// means in the rules' words in specs/View.antt, and what follows of every start and step in proofs/Promises.antt.
 ghost use mathlib.Core.Path.{_≡_};
 ghost use mathlib.Core.Bool.{Bool, true, false};
-ghost use Prim.Native.Nat.{_≤_, _<_};
+ghost use Prim.Native.Nat.{_≤_};
 ghost use lib.ListN.{length, take};
-ghost use Rattle.frames.specs.Frames.{noItem};
-ghost use Rattle.shard.specs.Model.{emptyShard, startOf, mine, allMine, refused, judge, noReads, readOf, noted, cellAfter, execNotif, stepOf, outOf};
+ghost use Rattle.shard.specs.Model.{emptyShard, startOf, mine, allMine, refused, judge, readOf, noReads, noted, cellAfter, execNotif, stepOf, outOf};
+ghost use Rattle.shard.specs.View.{Held, StartMeans, StepMeans};
 use frames::Frame;
 use frames::Head;
 use frames::Item;
 use frames::LogNumber;
 
-// What the group has for a key: the value last put and the log number that put it. Of a key never put all is 0.
+// "An out area must have at least 68 bytes."
+const LEAST_OUT: usize = 68;
+
+// What the group has for a key: the value last put and the log number that put it. A key never put is absent, and its cell
+// is zero. In this order of fields a cell is 8 bytes.
 pub struct Cell {
     pub value: u32,
     pub log_number: LogNumber,
     pub present: bool,
 }
 
-// Shard group own of m. last_run is the last log number run and 1 more; 0: none.
+// Shard group own of m, a cell for each key. last_run is 1 more than the log number last run, and 0 where none was.
 pub struct Shard {
     pub cells: [Cell; 256],
     pub ssn: u16,
@@ -27,11 +32,13 @@ pub struct Shard {
     pub started: bool,
 }
 
+// What a start gives: the group, and 0, or 11 with every field of the group empty and the group not started.
 pub struct Started {
     pub shard: Shard,
     pub answer: u8,
 }
 
+// What a step gives: the group as it then stands, the answer, and how many frames and bytes stand in the out area.
 pub struct Stepped {
     pub shard: Shard,
     pub answer: u8,
@@ -39,31 +46,21 @@ pub struct Stepped {
     pub bytes: usize,
 }
 
-// The answer to a frame that was read; where it is 0, what the ShardAppend says.
+// The answer to a frame; where it is 0, the log number and sn of the ShardAppend that the frame is.
 struct Verdict {
     answer: u8,
     log_number: LogNumber,
     sn: u16,
 }
 
-// The reads that gets have made so far.
+// The reads of the gets that have run, in their order.
 struct Reads {
     count: u8,
     items: [Item; 4],
 }
 
-fn no_item() -> Item
-    ensures { λ r. ⌜ r ≡ noItem ⌝ }
-{
-    Item {
-        place: 0,
-        code: 0,
-        key: 0,
-        value: 0,
-    }
-}
+// ---- Start
 
-// No key present, ssn 0, last run none.
 fn empty(m: u8, own: u8, started: bool) -> Shard
     ensures { λ r. ⌜ r ≡ emptyShard m own started ⌝ }
 {
@@ -83,12 +80,14 @@ fn empty(m: u8, own: u8, started: bool) -> Shard
     }
 }
 
-// Refused by 11 if m or the own number is out of range; then the state is empty and not started.
+// A group starts from m and its own number alone: a fresh one knows no key, whatever its memory held. What is promised is
+// every field, and that they mean the rules' start.
 pub fn start(m: u8, own: u8) -> Started
     ensures { λ r. ⌜ r ≡ startOf m own ⌝ }
+    ensures { λ r. ⌜ StartMeans m own r ⌝ }
 {
-    let ok = (1 <= m) & (m <= 8) & ((1 <= own) & (own <= m));
-    if !ok {
+    let usable = (1 <= m) & (m <= 8) & ((1 <= own) & (own <= m));
+    if !usable {
         return Started {
             shard: empty(0, 0, false),
             answer: 11,
@@ -100,7 +99,9 @@ pub fn start(m: u8, own: u8) -> Started
     }
 }
 
-// Is the operation's key the group's? Key k belongs to shard k mod m + 1.
+// ---- The answer
+
+// "Key k belongs to shard (k mod m) + 1."
 fn is_mine(m: u8, own: u8, x: Item) -> bool
     ensures { λ r. ⌜ r ≡ mine m own x ⌝ }
 {
@@ -141,18 +142,18 @@ fn judge(started: bool, room: usize, m: u8, own: u8, ssn: u16, last_run: u32, f:
     requires { ⌜ f .count ≤ 4 ⌝ }
     ensures { λ r. ⌜ r ≡ judge started room m own ssn «last_run» f ⌝ }
 {
-    if !started | (room < 68) {
+    if !started | (room < LEAST_OUT) {
         return refused(11);
     }
-    let h = f.head;
-    if let Head::Bad = h {
+    let head = f.head;
+    if let Head::Bad = head {
         return refused(1);
     }
     let Head::ShardAppend {
         shard,
         log_number,
         sn,
-    } = h
+    } = head
     else {
         return refused(2);
     };
@@ -179,7 +180,9 @@ fn judge(started: bool, room: usize, m: u8, own: u8, ssn: u16, last_run: u32, f:
     }
 }
 
-// What a get says of its key's cell.
+// ---- Running
+
+// What a get says of its key's cell; a value is 0 if its key is absent.
 fn read_of(x: Item, cell: Cell) -> Item
     ensures { λ r. ⌜ r ≡ readOf x cell ⌝ }
 {
@@ -199,6 +202,17 @@ fn read_of(x: Item, cell: Cell) -> Item
     }
 }
 
+fn no_reads() -> Reads
+    ensures { λ r. ⌜ r ≡ noReads ⌝ }
+{
+    let none = frames::no_item();
+    let items = [none; 4];
+    Reads {
+        count: 0,
+        items: items,
+    }
+}
+
 // A get adds what it sees, a put nothing.
 fn note(mut reads: Reads, x: Item, cell: Cell) -> Reads
     ensures { λ r. ⌜ r ≡ noted reads x cell ⌝ }
@@ -213,7 +227,7 @@ fn note(mut reads: Reads, x: Item, cell: Cell) -> Reads
     reads
 }
 
-// A put stores the value and the log number; a get leaves the cell as it is.
+// "Each put stores the value and the log number"; a get leaves its cell as it is.
 fn cell_after(log_number: LogNumber, x: Item, cell: Cell) -> Cell
     ensures { λ r. ⌜ r ≡ cellAfter «log_number» x cell ⌝ }
 {
@@ -227,35 +241,31 @@ fn cell_after(log_number: LogNumber, x: Item, cell: Cell) -> Cell
     }
 }
 
-fn no_reads() -> Reads
-    ensures { λ r. ⌜ r ≡ noReads ⌝ }
-{
-    let z = no_item();
-    let items = [z; 4];
-    Reads {
-        count: 0,
-        items: items,
-    }
-}
+// ---- Step
 
 fn exec_notif(own: u8, log_number: LogNumber, reads: Reads) -> Frame
     ensures { λ r. ⌜ r ≡ execNotif own «log_number» reads ⌝ }
 {
-    let h = Head::ExecNotif {
+    let head = Head::ExecNotif {
         shard: own,
         log_number: log_number,
     };
     let items = reads.items;
     Frame {
-        head: h,
+        head: head,
         count: reads.count,
         items: items,
     }
 }
 
-// A ShardAppend's bytes arrive: its operations run in order, and ExecNotif goes out with the reads at their places.
+// A frame's bytes arrive. A ShardAppend that is not refused runs its operations in order, on the cells in place, so that a
+// get sees the earlier puts of its list; then ssn and last run move, and ExecNotif goes out with the reads at their places.
+// A refusal leaves the group and the out area as they were. What is promised is every field and every byte of the out area,
+// whatever the group's bits; and, of a group that is held, as every start gives it and every step keeps it, that they mean
+// the rules' step.
 pub fn step(mut s: Shard, frame: &[u8], out: &mut [u8]) -> Stepped
     ensures { λ r. ⌜ (r ≡ stepOf s (now (frame .entry)) (length (now (out .entry)))) × (now (out .exit) ≡ outOf s (now (frame .entry)) (now (out .entry))) ⌝ }
+    ensures { λ r. ⌜ (Held s → StepMeans s (now (frame .entry)) (now (out .entry)) r (now (out .exit))) ⌝ }
 {
     let f = frames::read_frame(frame);
     let v = judge(s.started, out.len(), s.m, s.own, s.ssn, s.last_run, f);

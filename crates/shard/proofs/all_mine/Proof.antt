@@ -4,7 +4,7 @@ use mathlib.Core.Path.{_≡_, sym, _∙_, refl}
 use Rattle.shard.specs.Model.{mine, allMine}
 use Prim.Native.Nat.{_≤_, _-_}
 use lib.ListN.{length, take, drop}
-use Rattle.shard.proofs.Laws.{every-no, every-yes, every-end}
+use Rattle.shard.proofs.Walk.{every-no, every-yes, every-end}
 use borrow.Author.Needs.{needs}
 use Rattle.shard.proofs.all_mine.Statement.{statement}
 use Rattle.shard.proofs.all_mine.Tie as tie

@@ -8,7 +8,7 @@ use borrow.Author.Tests.{ltb-true}
 use Prim.Native.Nat.{_<_}
 use Rattle.rules.specs.Lists.{_<?_, _=?_}
 use mathlib.Core.Bool.{_&&_}
-use Rattle.shard.proofs.Laws.{and-second}
+use Rattle.shard.proofs.Ways.{and-second}
 use borrow.Author.Needs.{needs}
 use Rattle.shard.proofs.note.Statement.{statement}
 use Rattle.shard.proofs.note.Tie as tie

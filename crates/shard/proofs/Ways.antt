@@ -1,22 +1,20 @@
--- Walking the first n of an array: what is left at i begins with the element there, and a test or a run over it goes on with the rest.
+-- The ways out of a start, of the judging and of a step, one law for each; the laws take what the callees ensure.
 -- Assumes nothing.
 use mathlib.Core.Path.{_≡_, refl, sym, ap, _∙_}
-use mathlib.Core.Bool.{Bool, true, false, not, _&&_}
+use mathlib.Core.Bool.{not, Bool, true, false, _&&_}
 use mathlib.Core.List.{List, [], _∷_, _++_, append-nil}
-use Prim.Native.Nat.{ℕ, suc, _+_, _≤_, _<_}
-use native.Mathlib.Numerals.{add-one}
+use Prim.Native.Nat.{ℕ, _+_, _≤_, _<_}
 use native.Mathlib.Omega.{arith}
-use lib.ListN.{length, getD, take, drop, set, length-set, drop-of-length-le}
-use lib.Seq.{drop-cons, getD-take, length-take-le}
+use lib.ListN.{length, getD, take, drop, set, length-set}
 use borrow.Author.Tests.{not-true, not-false, eq-eqb, ne-eqb}
-use Rattle.rules.specs.Lists.{if_then_else_, every}
+use Rattle.rules.specs.Lists.{within, if_then_else_}
 use Rattle.frames.specs.declared.Item.{Item}
 use Rattle.frames.specs.declared.Head.{Head}
 use Rattle.frames.specs.declared.Head.the-variants.{Bad, Submit, Forward, ShardAppend, ExecNotif, Executed, Response}
 use Rattle.frames.specs.declared.Frame.{Frame}
 use Rattle.frames.specs.Frames.{noItem, frameBytes, readFrame, writtenOf, laidOf}
 use Rattle.frames.proofs.Puts.{writes, lays}
-use Rattle.shard.proofs.Read.{FewReads, ran-few, no-reads-few, taken-room, notif-room}
+use Rattle.shard.proofs.Fits.{FewReads, ran-few, no-reads-few, taken-room, notif-room}
 use Rattle.frames.proofs.Head.{the-type}
 use Rattle.rules.specs.Answers.{notForMe}
 use Rattle.shard.specs.declared.Cell.{Cell}
@@ -24,43 +22,24 @@ use Rattle.shard.specs.declared.Shard.{Shard}
 use Rattle.shard.specs.declared.Stepped.{Stepped}
 use Rattle.shard.specs.declared.Verdict.{Verdict}
 use Rattle.shard.specs.declared.Reads.{Reads}
-use Rattle.shard.specs.Model.{refused, judgeHead, judge, cellAt, cellAfter, noReads, noted, Running, turn, ran, execNotif, Outcome, after, settled, outcome, stepped, laid, stepOf, outOf}
+use Rattle.shard.specs.Model.{emptyShard, startOf, refused, judgeHead, judge, cellAt, cellAfter, noReads, noted, Running, turn, ran, execNotif, Outcome, after, settled, itemsOf, outcome, stepped, laid, stepOf, outOf}
 use denote.Enum.Declared.{tagOf}
 use types.Run.{OneOf, miss}
+use Rattle.shard.proofs.Walk.{ran-on, ran-end}
 
-module _ {A : Type 0} (l : List A) (n : ℕ) (h : n ≤ length l) where
-  front-cons : (i : ℕ) (d : A) → i < n → drop i (take n l) ≡ getD l i d ∷ drop (i + 1) (take n l)
-  front-cons i d k =
-      let e : length (take n l) ≡ n = length-take-le n l h in
-      let g : i < length (take n l) = omega arith in
-      drop-cons (take n l) i d g ∙ rw (add-one, getD-take n l i d k)
+-- ---- The ways out of a start
 
-  front-end : (i : ℕ) → n ≤ i → drop i (take n l) ≡ []
-  front-end i k =
-      let e : length (take n l) ≡ n = length-take-le n l h in
-      let g : length (take n l) ≤ i = omega arith in
-      drop-of-length-le (take n l) g
+module _ (m own : ℕ) (s : Shard) where
+  abbrev Usable : Bool
+  Usable = within 1 8 m && within 1 m own
 
-  -- a test of each
-  pub every-no : (ok : A → Bool) (i : ℕ) (d : A) (t : Bool) → i < n → t ≡ ok (getD l i d) → not t ≡ true → every ok (drop i (take n l)) ≡ false
-  every-no ok i d t k e f = rw (front-cons i d k, ← e, not-true t f)
+  pub start-not : not Usable ≡ true → s ≡ emptyShard 0 0 false → record { shard = s; answer = 11 } ≡ startOf m own
+  unfolding startOf if_then_else_
+  start-not t e = simp (not-true Usable t, e)
 
-  pub every-yes : (ok : A → Bool) (i : ℕ) (d : A) (t : Bool) → i < n → t ≡ ok (getD l i d) → not t ≡ false
-      → every ok (drop (i + 1) (take n l)) ≡ every ok (drop i (take n l))
-  every-yes ok i d t k e f = rw (front-cons i d k, ← e, not-false t f)
-
-  pub every-end : (ok : A → Bool) (i : ℕ) → n ≤ i → every ok (drop i (take n l)) ≡ true
-  every-end ok i k = rw (front-end i k)
-
--- a run
-module _ (l : List Item) (n : ℕ) (h : n ≤ length l) (ind : ℕ) where
-  pub ran-on : (i : ℕ) (d : Item) (r : Running) → i < n → ran ind (drop (i + 1) (take n l)) (turn ind (getD l i d) r) ≡ ran ind (drop i (take n l)) r
-  unfolding ran
-  ran-on i d r k = rw (front-cons l n h i d k)
-
-  pub ran-end : (i : ℕ) (r : Running) → n ≤ i → ran ind (drop i (take n l)) r ≡ r
-  unfolding ran
-  ran-end i r k = rw (front-end l n h i k)
+  pub start-taken : not Usable ≡ false → s ≡ emptyShard m own true → record { shard = s; answer = 0 } ≡ startOf m own
+  unfolding startOf if_then_else_
+  start-taken t e = simp (not-false Usable t, e)
 
 -- ---- A head that is neither Bad nor a ShardAppend is for somebody else
 
@@ -131,7 +110,7 @@ module _ (s : Shard) (bytes out : List ℕ) where
   given o e = (ap stepped (sym e), ap (λ (x : Outcome). laid (x .frames) out) (sym e))
 
   module _ (f : Frame) (e : f ≡ readFrame bytes) (v : Verdict) (d : v ≡ judge (s .started) (length out) (s .m) (s .own) (s .ssn) (s .«last_run») f) where
-    is-settled : outcome s bytes (length out) ≡ settled s f v
+    is-settled : outcome s bytes (length out) ≡ settled s (itemsOf f) v
     unfolding outcome
     is-settled = rw (← e, ← d)
 

@@ -1,13 +1,14 @@
--- What a step needs to know of the frames that it reads and writes.
+-- What a step reads and what it sends fits: a frame that was read has at most four items, a list makes at most four reads, and a step that is
+-- taken has room for its ExecNotif.
 -- Assumes nothing.
-use mathlib.Core.Path.{_≡_, refl, sym, ap, _∙_}
+use mathlib.Core.Path.{_≡_, refl, _∙_}
 use mathlib.Core.Bool.{Bool, true, false, not, _&&_, _||_}
 use mathlib.Core.List.{List, [], _∷_}
 use Prim.Native.Nat.{ℕ, zero, suc, _+_, _≤_}
 use native.Mathlib.Omega.{arith}
 use lib.Dec.{T, nltb→le, ltb→lt}
 use lib.ListN.{length, drop, length-set}
-use Rattle.rules.specs.Lists.{if_then_else_, _<?_, _≤?_, _=?_}
+use Rattle.rules.specs.Lists.{_<?_, _≤?_, _=?_}
 use Rattle.rules.specs.Frames.{twoAt, headerWidth}
 use Rattle.rules.specs.Outcomes.{unusable}
 use Rattle.rules.proofs.Lists.{by, and-l, and-r}
