@@ -13,22 +13,28 @@ use borrow.Author.Tests.{lt-leb, ne-eqb}
 use Rattle.rules.specs.Lists.{if_then_else_}
 use Rattle.rules.specs.Frames.{twoAt}
 use Rattle.frames.specs.declared.Item.{Item}
+use Rattle.frames.specs.declared.Head.{Head}
+use Rattle.frames.specs.declared.Head.the-variants.{Bad}
 use Rattle.frames.specs.declared.Frame.{Frame}
 use Rattle.frames.specs.declared.Front.{Front}
-use Rattle.frames.specs.Frames.{lenOf, okItem, okFrom, valid, noItem, badFrame, byKind, candidateOf, noFront, taken, accept}
+use Rattle.frames.specs.Frames.{lenOf, okItem, okFrom, valid, noItem, badFrame, headOf, listed, candidateOf, noFront, taken, accept}
 
 -- the part of a list from a on, up to the end
 pub part : {A : Type 0} (s : List A) (a : ℕ) → take (length s - a) (drop a s) ≡ drop a s
 part s a = take-all (length s - a) (drop a s) (le-of-eq (length-drop a s))
 
--- bytes of kind k are read as byKind says
-pub kind : (s body : List ℕ) (k j : ℕ) → j ≡ twoAt s 2 → j ≡ k → body ≡ drop 4 s → candidateOf s ≡ byKind k body
-unfolding candidateOf
-kind s body k j e h d = λ i. byKind ((sym e ∙ h) i) (sym d i)
+-- a body of kind k is read as headOf says
+pub kind : (s body : List ℕ) (k j : ℕ) → j ≡ twoAt s 2 → j ≡ k → headOf (twoAt s 2) body ≡ headOf k body
+kind s body k j e h = ap (λ (i : ℕ). headOf i body) (sym e ∙ h)
 
-pub other : (body : List ℕ) (k : ℕ) → (k ≡ 1 → ⊥) → (k ≡ 2 → ⊥) → (k ≡ 3 → ⊥) → (k ≡ 4 → ⊥) → (k ≡ 5 → ⊥) → (k ≡ 6 → ⊥) → byKind k body ≡ badFrame
-unfolding byKind if_then_else_
+pub other : (body : List ℕ) (k : ℕ) → (k ≡ 1 → ⊥) → (k ≡ 2 → ⊥) → (k ≡ 3 → ⊥) → (k ≡ 4 → ⊥) → (k ≡ 5 → ⊥) → (k ≡ 6 → ⊥) → headOf k body ≡ Bad
+unfolding headOf if_then_else_
 other body k a b c d e f = simp (ne-eqb k 1 a, ne-eqb k 2 b, ne-eqb k 3 c, ne-eqb k 4 d, ne-eqb k 5 e, ne-eqb k 6 f)
+
+-- the candidate from its parts
+pub candidate-of : (s body : List ℕ) (h : Head) (f : Frame) → body ≡ drop 4 s → h ≡ headOf (twoAt s 2) body → f ≡ listed h body → f ≡ candidateOf s
+unfolding candidateOf
+candidate-of s body h f b e l = l ∙ rw (e, b)
 
 -- the test of `accept` as the code computes it, and what it decides
 pub accepts : (f : Frame) (s : List ℕ) (b t : Bool) (field len : ℕ) → b ≡ valid f → field ≡ twoAt s 0 → len ≡ lenOf (f .head) (f .count)

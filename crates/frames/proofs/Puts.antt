@@ -9,7 +9,7 @@ use native.Mathlib.Omega.{arith}
 use native.Mathlib.Decide.{decLe}
 use lib.ListN.{length, getD, take, drop, set, length-append}
 use lib.Arith.{digits-div, digits-mod}
-use lib.Dec.{ltb}
+use lib.Dec.{ltb, eqb}
 use lib.Seq.{sets, sets-eq, take-nil}
 use borrow.Author.Tests.{lt-ltb, le-ltb, ltb-true, ltb-false, le-leb, lt-leb}
 use Rattle.rules.specs.Lists.{if_then_else_}
@@ -17,7 +17,7 @@ use Rattle.rules.specs.Frames.{two, four}
 use Rattle.frames.specs.declared.Item.{Item}
 use Rattle.frames.specs.declared.Shape.{Shape}
 use Rattle.frames.specs.declared.Shape.the-variants.{Operation, Placed, Read}
-use Rattle.frames.specs.Frames.{width, itemBytes, itemsBytes, slotBytes, listBytes, noItem, Put, isBad, fieldBytes, fieldWidth, shapeOf, lenOf, framed, frameBytes, fits, writtenOf, laidOf}
+use Rattle.frames.specs.Frames.{width, itemBytes, itemsBytes, slotBytes, listBytes, noItem, Put, isBad, kindOf, headerBytes, fieldBytes, fieldWidth, shapeOf, lenOf, framed, frameBytes, fits, writtenOf, laidOf}
 use Rattle.frames.specs.declared.Head.{Head}
 use Rattle.frames.specs.declared.Head.the-variants.{Bad, Submit, Forward, ShardAppend, ExecNotif, Executed, Response}
 use Rattle.frames.specs.declared.Frame.{Frame}
@@ -116,6 +116,15 @@ length-fields (ExecNotif a b) = refl
 length-fields (Executed a) = refl
 length-fields (Response a b) = refl
 
+pub fields-small : (h : Head) → length (fieldBytes h) ≤ 7
+fields-small Bad = omega arith
+fields-small (Submit a b c) = omega arith
+fields-small (Forward a b c d) = omega arith
+fields-small (ShardAppend a b c) = omega arith
+fields-small (ExecNotif a b) = omega arith
+fields-small (Executed a) = omega arith
+fields-small (Response a b) = omega arith
+
 pub length-framed : (len : ℕ) (h : Head) (count : ℕ) (xs : List Item) → count ≤ length xs → length (framed len h count xs) ≡ lenOf h count + 2
 length-framed len h count xs k =
     omega (arith, length-append (fieldBytes h) (listBytes (shapeOf h) count xs), length-fields h, length-items (shapeOf h) count xs k)
@@ -142,16 +151,16 @@ unfolding laidOf fits if_then_else_
 lays f out k h = simp (le-leb (f .count) 4 k, le-leb (length (frameBytes f)) (length out) h)
 
 -- what the code leaves where it writes
-pub wrote : (f : Frame) (h : Head) (l m : List ℕ) (len e : ℕ) → f .head ≡ h → isBad h ≡ false → f .count ≤ 4 → length (f .items) ≡ 4 → len ≡ lenOf (f .head) (f .count)
-    → len + 2 ≤ length l → Put l m 0 e (framed len h (f .count) (f .items)) → (e ≡ writtenOf f (length l)) × (m ≡ laidOf f l)
-wrote f h l m len e eh b k k₄ en r p =
-    let b′ : isBad (f .head) ≡ false = rw eh b in
-    let q : framed len h (f .count) (f .items) ≡ frameBytes f = rw (← eh, en) (sym (frame-bytes f b′)) in
+pub wrote : (f : Frame) (l m : List ℕ) (k len e : ℕ) (shape : Shape) → k ≡ kindOf (f .head) → len ≡ lenOf (f .head) (f .count) → shape ≡ shapeOf (f .head)
+    → isBad (f .head) ≡ false → f .count ≤ 4 → length (f .items) ≡ 4 → len + 2 ≤ length l
+    → Put l m 0 e (((two len ++ headerBytes k) ++ fieldBytes (f .head)) ++ listBytes shape (f .count) (f .items)) → (e ≡ writtenOf f (length l)) × (m ≡ laidOf f l)
+wrote f l m k len e shape ek en es b c four r p =
+    let q : ((two len ++ headerBytes k) ++ fieldBytes (f .head)) ++ listBytes shape (f .count) (f .items) ≡ frameBytes f = rw (ek, en, es) (sym (frame-bytes f b)) in
     let p′ : Put l m 0 e (frameBytes f) = rw q at p in
-    let n : length (frameBytes f) ≡ lenOf (f .head) (f .count) + 2 = length-frame f b′ (omega arith) in
+    let n : length (frameBytes f) ≡ lenOf (f .head) (f .count) + 2 = length-frame f b (omega arith) in
     let room : length (frameBytes f) ≤ length l = omega arith in (
-      p′ .ended ∙ zero-add (length (frameBytes f)) ∙ sym (writes f (length l) k room),
-      p′ .stored ∙ rw zero-add at (sets-eq (frameBytes f) l 0 (rw zero-add room)) ∙ sym (lays f l k room),
+      p′ .ended ∙ zero-add (length (frameBytes f)) ∙ sym (writes f (length l) c room),
+      p′ .stored ∙ rw zero-add at (sets-eq (frameBytes f) l 0 (rw zero-add room)) ∙ sym (lays f l c room),
     )
 
 -- what it leaves where it writes nothing
@@ -163,10 +172,39 @@ wrote-none f l e = (rw e (both (fits f (length l)) 0), rw e (both (fits f (lengt
     both true x = refl
     both false x = refl
 
-pub wrote-refused : (f : Frame) (l : List ℕ) (len : ℕ) → length (f .items) ≡ 4 → len ≡ lenOf (f .head) (f .count) → ltb 4 (f .count) || ltb (length l) (len + 2) ≡ true
-    → (0 ≡ writtenOf f (length l)) × (l ≡ laidOf f l)
+-- a frame that is none has kind 0
+kind-bad : (h : Head) → eqb (kindOf h) 0 ≡ isBad h
+kind-bad Bad = refl
+kind-bad (Submit a b c) = refl
+kind-bad (Forward a b c d) = refl
+kind-bad (ShardAppend a b c) = refl
+kind-bad (ExecNotif a b) = refl
+kind-bad (Executed a) = refl
+kind-bad (Response a b) = refl
+
+-- the code's test, and what it says either way
+abbrev refuses : ℕ → ℕ → ℕ → ℕ → Bool
+refuses k count out len = eqb k 0 || ltb 4 count || ltb out (len + 2)
+
+pub room : (h : Head) (k count out len : ℕ) → k ≡ kindOf h → refuses k count out len ≡ false → (isBad h ≡ false) × ((count ≤ 4) × (len + 2 ≤ out))
+room h k count out len e t =
+    let a : Bool = eqb k 0 in
+    let b : Bool = ltb 4 count in
+    let c : Bool = ltb out (len + 2) in
+    let u = or-no (a || b) c t in
+    let v = or-no a b (u .0) in (
+      sym (kind-bad h) ∙ ap (λ (n : ℕ). eqb n 0) (sym e) ∙ v .0,
+      (ltb-false 4 count (v .1), ltb-false out (len + 2) (u .1)),
+    )
+  where
+    or-no : (a b : Bool) → a || b ≡ false → (a ≡ false) × (b ≡ false)
+    or-no true b e = let z : _≡_ {A = ℕ} 0 1 = cc in absurd (omega arith)
+    or-no false b e = (refl, e)
+
+pub wrote-refused : (f : Frame) (l : List ℕ) (k len : ℕ) → length (f .items) ≡ 4 → k ≡ kindOf (f .head) → len ≡ lenOf (f .head) (f .count)
+    → refuses k (f .count) (length l) len ≡ true → (0 ≡ writtenOf f (length l)) × (l ≡ laidOf f l)
 unfolding writtenOf laidOf fits if_then_else_
-wrote-refused f l len k en t = go (isBad (f .head)) refl
+wrote-refused f l k len four ek en t = go (isBad (f .head)) refl
   where
     no : fits f (length l) ≡ false → (0 ≡ writtenOf f (length l)) × (l ≡ laidOf f l)
     no e = (simp e, simp e)
@@ -181,11 +219,6 @@ wrote-refused f l len k en t = go (isBad (f .head)) refl
 
     go : (b : Bool) → isBad (f .head) ≡ b → (0 ≡ writtenOf f (length l)) × (l ≡ laidOf f l)
     go true e = wrote-none f l (bad-bytes f e)
-    go false e = no (unfit e (ltb 4 (f .count)) refl t)
-
-pub room : (count out len : ℕ) → ltb 4 count || ltb out (len + 2) ≡ false → (count ≤ 4) × (len + 2 ≤ out)
-room count out len = go (ltb 4 count) refl
-  where
-    go : (a : Bool) → ltb 4 count ≡ a → a || ltb out (len + 2) ≡ false → (count ≤ 4) × (len + 2 ≤ out)
-    go true e t = let z : _≡_ {A = ℕ} 0 1 = cc in absurd (omega arith)
-    go false e t = (ltb-false 4 count e, ltb-false out (len + 2) t)
+    go false e =
+        let z : eqb k 0 ≡ false = rw ek (kind-bad (f .head) ∙ e) in
+        no (unfit e (ltb 4 (f .count)) refl (rw z at t))

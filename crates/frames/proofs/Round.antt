@@ -19,7 +19,7 @@ use Rattle.frames.specs.declared.Head.{Head}
 use Rattle.frames.specs.declared.Head.the-variants.{Bad, Submit, Forward, ShardAppend, ExecNotif, Executed, Response}
 use Rattle.frames.specs.declared.Frame.{Frame}
 use Rattle.frames.specs.declared.Front.{Front}
-use Rattle.frames.specs.Frames.{kindOf, fieldBytes, fieldWidth, shapeOf, isBad, width, itemsBytes, listBytes, headerBytes, framed, frameBytes, lenOf, okItem, okFrom, okItems, okWindow, okHead, valid, badFrame, slots, listed, readSubmit, readForward, readShardAppend, readExecNotif, readExecuted, readResponse, byKind, candidateOf, noFront, taken, accept, readFront, readFrame}
+use Rattle.frames.specs.Frames.{kindOf, fieldBytes, fieldWidth, shapeOf, isBad, width, itemsBytes, listBytes, headerBytes, framed, frameBytes, lenOf, okItem, okFrom, okItems, okWindow, okHead, valid, badFrame, slots, listed, readSubmit, readForward, readShardAppend, readExecNotif, readExecuted, readResponse, headOf, candidateOf, noFront, taken, accept, readFront, readFrame}
 use Rattle.frames.specs.View.{CanonFrom, CanonFrame, Bytes}
 use Rattle.frames.proofs.Puts.{frame-bytes, length-frame}
 use Rattle.frames.proofs.Lists.{gets, gets-append, gets-part, gets-drop, two-at, items-bytes, slots-canon, two-back, items-back}
@@ -91,7 +91,7 @@ module _ (count : ℕ) (xs : List Item) (t : List ℕ) (four : length xs ≡ 4) 
 
   -- the frame's bytes are those of no other
   spelled : (h : Head) → T (okHead h count) → CanonFrom (shapeOf h) 0 count xs → candidateOf (bytes h) ≡ frame h
-  unfolding candidateOf byKind if_then_else_ readSubmit readForward readShardAppend readExecNotif readExecuted readResponse bytes frame
+  unfolding candidateOf listed headOf if_then_else_ bytes frame
   spelled Bad v c = absurd v
   spelled (Submit client number ack) v c =
       let w = window number ack (and-r (leb 1 count && leb client 15) (okWindow number ack) v) in
@@ -150,15 +150,26 @@ pub record Begins (s : List ℕ) (r : Front) : Type 0 where
   pub inside : r .end ≤ length s
 
 -- fields and list of a frame that was read from a body
-body-bytes : (body : List ℕ) → Bytes body → (h : Head) (at : ℕ) → at ≡ fieldWidth h → fieldBytes h ≡ gets 0 at 0 body → byteAt body at ≤ 4
-    → fieldBytes h ++ listBytes (shapeOf h) (byteAt body at) (slots (shapeOf h) 0 4 (byteAt body at) body (at + 1))
-    ≡ gets 0 (at + (1 + width (shapeOf h) * byteAt body at)) 0 body
-body-bytes body b h at w e k =
+body-bytes : (body : List ℕ) → Bytes body → (h : Head) → fieldBytes h ≡ gets 0 (fieldWidth h) 0 body → listed h body .count ≤ 4
+    → fieldBytes h ++ listBytes (shapeOf h) (listed h body .count) (listed h body .items)
+    ≡ gets 0 (fieldWidth h + (1 + width (shapeOf h) * listed h body .count)) 0 body
+unfolding listed
+body-bytes body b h e k =
+    let at : ℕ = fieldWidth h in
     let n : ℕ = byteAt body at in
     let m : ℕ = width (shapeOf h) * n in
     let l : listBytes (shapeOf h) n (slots (shapeOf h) 0 4 n body (at + 1)) ≡ gets 0 (1 + m) at body
     = (λ j. n ∷ items-bytes body b (shapeOf h) n 4 0 n (at + 1) (sym (zero-add n)) k j) ∙ gets-append 0 1 m at body in
     (λ j. e j ++ l j) ∙ (rw zero-add at (gets-append 0 at (1 + m) 0 body))
+
+listed-canon : (body : List ℕ) → Bytes body → (h : Head) → CanonFrame (listed h body)
+unfolding listed
+listed-canon body b h =
+    let n : ℕ = byteAt body (fieldWidth h) in (refl, slots-canon body b (shapeOf h) 4 n 0 n (fieldWidth h + 1) (sym (zero-add n)))
+
+listed-head : (body : List ℕ) (h : Head) → listed h body .head ≡ h
+unfolding listed
+listed-head body h = refl
 
 module _ (s : List ℕ) (b : Bytes s) where
   bytes-from : (n : ℕ) → Bytes (drop n s)
@@ -168,27 +179,25 @@ module _ (s : List ℕ) (b : Bytes s) where
   Accepted f = T (taken f s) → Begins s (record { frame = f; end = lenOf (f .head) (f .count) + 2 })
 
   -- one frame, whatever its kind
-  accepted : (h : Head) (at : ℕ) → isBad h ≡ false → at ≡ fieldWidth h → twoAt s 2 ≡ kindOf h → fieldBytes h ≡ gets 0 at 0 (drop 4 s)
-      → Accepted (listed h (drop 4 s) at)
-  accepted h at g w k e t =
-      let f : Frame = listed h (drop 4 s) at in
+  accepted : (h : Head) → isBad h ≡ false → twoAt s 2 ≡ kindOf h → fieldBytes h ≡ gets 0 (fieldWidth h) 0 (drop 4 s) → Accepted (listed h (drop 4 s))
+  unfolding listed
+  accepted h g k e t =
+      let f : Frame = listed h (drop 4 s) in
       let n : ℕ = lenOf h (f .count) in
       let u = and-l (valid f && eqb (twoAt s 0) n) (leb (n + 2) (length s)) t in
       let v = and-l (valid f) (eqb (twoAt s 0) n) u in
       let c : f .count ≤ 4 = enough 0 (f .count) (f .items) (items-of f v) in
-      let m : ℕ = at + (1 + width (shapeOf h) * f .count) in
-      let z : n ≡ 2 + m = omega arith in
+      let m : ℕ = fieldWidth h + (1 + width (shapeOf h) * f .count) in
       let i : n + 2 ≤ length s = leb→le (n + 2) (length s) (and-r (valid f && eqb (twoAt s 0) n) (leb (n + 2) (length s)) t) in
       let p : two n ≡ gets 0 2 0 s = ap two (sym (eqb→eq (twoAt s 0) n (and-r (valid f) (eqb (twoAt s 0) n) u))) ∙ two-at s b 0 in
       let q : two (kindOf h) ≡ gets 0 2 2 s = ap two (sym k) ∙ two-at s b 2 in
-      let r : fieldBytes h ++ listBytes (shapeOf h) (f .count) (f .items) ≡ gets 0 m 4 s
-      = body-bytes (drop 4 s) (bytes-from 4) h at w e c ∙ gets-drop 0 m 4 0 s in
+      let r : fieldBytes h ++ listBytes (shapeOf h) (f .count) (f .items) ≡ gets 0 m 4 s = body-bytes (drop 4 s) (bytes-from 4) h e c ∙ gets-drop 0 m 4 0 s in
       let x : framed n h (f .count) (f .items) ≡ gets 0 (2 + (2 + m)) 0 s
       = (λ j. p j ++ (q j ++ r j)) ∙ ap (λ (l : List ℕ). gets 0 2 0 s ++ l) (gets-append 0 2 m 2 s) ∙ gets-append 0 2 (2 + m) 0 s in
       let y : 2 + (2 + m) ≡ n + 2 = omega arith in
       record {
         right = v;
-        canon = (refl, slots-canon (drop 4 s) (bytes-from 4) (shapeOf h) 4 (f .count) 0 (f .count) (at + 1) (sym (zero-add (f .count))));
+        canon = listed-canon (drop 4 s) (bytes-from 4) h;
         bytes = frame-bytes f g ∙ x ∙ gets-part 0 (2 + (2 + m)) 0 s (omega arith) ∙ ap (λ (k : ℕ). take k s) y;
         inside = i;
       }
@@ -197,17 +206,24 @@ module _ (s : List ℕ) (b : Bytes s) where
   field : (i : ℕ) → two (twoAt (drop 4 s) i) ≡ gets 0 2 i (drop 4 s)
   field i = two-at (drop 4 s) (bytes-from 4) i
 
-  by-kind : (k : ℕ) → twoAt s 2 ≡ k → Accepted (byKind k (drop 4 s))
-  unfolding byKind readSubmit readForward readShardAppend readExecNotif readExecuted readResponse badFrame valid
+  abbrev Read-as : Head → Type 0
+  Read-as h = Accepted (listed h (drop 4 s))
+
+  bad : Read-as Bad
+  unfolding listed valid
+  bad t = absurd t
+
+  by-kind : (k : ℕ) → twoAt s 2 ≡ k → Read-as (headOf k (drop 4 s))
+  unfolding headOf
   by-kind k e =
-      let o = drop 4 s in
-      by Accepted (eqb k 1) (λ q. accepted (Submit (byteAt o 0) (twoAt o 1) (twoAt o 3)) 5 refl refl (e ∙ eqb→eq k 1 q) (λ j. byteAt o 0 ∷ (field 1 j ++ field 3 j))) λ q.
-      by Accepted (eqb k 2) (λ q. accepted (Forward (twoAt o 0) (byteAt o 2) (twoAt o 3) (twoAt o 5)) 7 refl refl (e ∙ eqb→eq k 2 q) (λ j. field 0 j ++ (byteAt o 2 ∷ (field 3 j ++ field 5 j)))) λ q.
-      by Accepted (eqb k 3) (λ q. accepted (ShardAppend (byteAt o 0) (twoAt o 1) (twoAt o 3)) 5 refl refl (e ∙ eqb→eq k 3 q) (λ j. byteAt o 0 ∷ (field 1 j ++ field 3 j))) λ q.
-      by Accepted (eqb k 4) (λ q. accepted (ExecNotif (byteAt o 0) (twoAt o 1)) 3 refl refl (e ∙ eqb→eq k 4 q) (λ j. byteAt o 0 ∷ field 1 j)) λ q.
-      by Accepted (eqb k 5) (λ q. accepted (Executed (twoAt o 0)) 2 refl refl (e ∙ eqb→eq k 5 q) (field 0)) λ q.
-      by Accepted (eqb k 6) (λ q. accepted (Response (byteAt o 0) (twoAt o 1)) 3 refl refl (e ∙ eqb→eq k 6 q) (λ j. byteAt o 0 ∷ field 1 j)) λ q.
-      λ t. absurd t
+      let o : List ℕ = drop 4 s in
+      by Read-as (eqb k 1) (λ q. accepted (readSubmit o) refl (e ∙ eqb→eq k 1 q) (λ j. byteAt o 0 ∷ (field 1 j ++ field 3 j))) λ q.
+      by Read-as (eqb k 2) (λ q. accepted (readForward o) refl (e ∙ eqb→eq k 2 q) (λ j. field 0 j ++ (byteAt o 2 ∷ (field 3 j ++ field 5 j)))) λ q.
+      by Read-as (eqb k 3) (λ q. accepted (readShardAppend o) refl (e ∙ eqb→eq k 3 q) (λ j. byteAt o 0 ∷ (field 1 j ++ field 3 j))) λ q.
+      by Read-as (eqb k 4) (λ q. accepted (readExecNotif o) refl (e ∙ eqb→eq k 4 q) (λ j. byteAt o 0 ∷ field 1 j)) λ q.
+      by Read-as (eqb k 5) (λ q. accepted (readExecuted o) refl (e ∙ eqb→eq k 5 q) (field 0)) λ q.
+      by Read-as (eqb k 6) (λ q. accepted (readResponse o) refl (e ∙ eqb→eq k 6 q) (λ j. byteAt o 0 ∷ field 1 j)) λ q.
+      bad
 
   -- nothing is read, or a frame with which the bytes begin
   pub fronts : (P : Front → Type 0) → P noFront → ((r : Front) → Begins s r → P r) → P (readFront s)

@@ -161,42 +161,48 @@ abbrev pub slots : Shape → ℕ → ℕ → ℕ → List ℕ → ℕ → List I
 slots shape i zero count s at = []
 slots shape i (suc k) count s at = slotAt shape i count s at ∷ slots shape (suc i) k count s (at + width shape)
 
--- the frame whose fields are given and whose list begins at `at`
-abbrev pub listed : Head → List ℕ → ℕ → Frame
-listed head s at = record { head = head; count = byteAt s at; items = slots (shapeOf head) 0 4 (byteAt s at) s (at + 1) }
+-- the fields of each kind, by their places in the body
+abbrev pub readSubmit : List ℕ → Head
+readSubmit body = Submit (byteAt body 0) (twoAt body 1) (twoAt body 3)
 
-unfoldable pub readSubmit : List ℕ → Frame
-readSubmit body = listed (Submit (byteAt body 0) (twoAt body 1) (twoAt body 3)) body 5
+abbrev pub readForward : List ℕ → Head
+readForward body = Forward (twoAt body 0) (byteAt body 2) (twoAt body 3) (twoAt body 5)
 
-unfoldable pub readForward : List ℕ → Frame
-readForward body = listed (Forward (twoAt body 0) (byteAt body 2) (twoAt body 3) (twoAt body 5)) body 7
+abbrev pub readShardAppend : List ℕ → Head
+readShardAppend body = ShardAppend (byteAt body 0) (twoAt body 1) (twoAt body 3)
 
-unfoldable pub readShardAppend : List ℕ → Frame
-readShardAppend body = listed (ShardAppend (byteAt body 0) (twoAt body 1) (twoAt body 3)) body 5
+abbrev pub readExecNotif : List ℕ → Head
+readExecNotif body = ExecNotif (byteAt body 0) (twoAt body 1)
 
-unfoldable pub readExecNotif : List ℕ → Frame
-readExecNotif body = listed (ExecNotif (byteAt body 0) (twoAt body 1)) body 3
+abbrev pub readExecuted : List ℕ → Head
+readExecuted body = Executed (twoAt body 0)
 
-unfoldable pub readExecuted : List ℕ → Frame
-readExecuted body = listed (Executed (twoAt body 0)) body 2
-
-unfoldable pub readResponse : List ℕ → Frame
-readResponse body = listed (Response (byteAt body 0) (twoAt body 1)) body 3
+abbrev pub readResponse : List ℕ → Head
+readResponse body = Response (byteAt body 0) (twoAt body 1)
 
 -- "The two-byte kind decides the body's layout"
-unfoldable pub byKind : ℕ → List ℕ → Frame
-byKind kind body =
+unfoldable pub headOf : ℕ → List ℕ → Head
+headOf kind body =
     if kind =? 1 then readSubmit body else
     if kind =? 2 then readForward body else
     if kind =? 3 then readShardAppend body else
     if kind =? 4 then readExecNotif body else
     if kind =? 5 then readExecuted body else
     if kind =? 6 then readResponse body else
-    badFrame
+    Bad
+
+-- fields and the list behind them
+unfoldable pub listed : Head → List ℕ → Frame
+listed head body =
+    record {
+      head = head;
+      count = byteAt body (fieldWidth head);
+      items = slots (shapeOf head) 0 4 (byteAt body (fieldWidth head)) body (fieldWidth head + 1);
+    }
 
 -- the only frame that some bytes can begin with
 unfoldable pub candidateOf : List ℕ → Frame
-candidateOf s = byKind (twoAt s 2) (drop (2 + headerWidth) s)
+candidateOf s = listed (headOf (twoAt s 2) (drop (2 + headerWidth) s)) (drop (2 + headerWidth) s)
 
 -- nothing was read
 unfoldable pub noFront : Front

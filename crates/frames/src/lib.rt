@@ -6,7 +6,7 @@ ghost use Prim.Native.Nat.{_+_, _*_, _<_, _≤_};
 ghost use lib.ListN.{length, take, drop, set};
 ghost use lib.Seq.{sets};
 ghost use Rattle.rules.specs.Frames.{two, four, byteAt, twoAt, fourAt, decode};
-ghost use Rattle.frames.specs.Frames.{kindOf, fieldBytes, fieldWidth, shapeOf, width, itemBytes, slotBytes, listBytes, headerBytes, framed, frameBytes, lenOf, okItem, okItems, okWindow, okHead, valid, noItem, badFrame, itemAt, slotAt, slots, listed, readSubmit, readForward, readShardAppend, readExecNotif, readExecuted, readResponse, candidateOf, noFront, accept, readFront, readFrame, Put, writtenOf, laidOf};
+ghost use Rattle.frames.specs.Frames.{kindOf, fieldBytes, fieldWidth, shapeOf, width, itemBytes, slotBytes, listBytes, headerBytes, lenOf, okItem, okItems, okWindow, okHead, valid, noItem, badFrame, itemAt, slotAt, slots, readSubmit, readForward, readShardAppend, readExecNotif, readExecuted, readResponse, headOf, listed, candidateOf, noFront, accept, readFront, readFrame, Put, writtenOf, laidOf};
 ghost use Rattle.frames.specs.View.{answerOf, answerTo, meaning};
 
 // The place of an entry in the log: "log number 0..255", two bytes in a frame.
@@ -73,6 +73,9 @@ pub struct Front {
     pub end: usize,
 }
 
+// The length field, which counts what follows it.
+const LENGTH: usize = 2;
+
 // What stands between the length and the body: the kind. Every length and place follows from this width.
 const HEADER: usize = 2;
 
@@ -111,6 +114,39 @@ fn u32_at(s: &[u8], i: usize) -> u32
 }
 
 // ---- The table of kinds
+
+fn kind_of(head: Head) -> u16
+    ensures { λ r. ⌜ r ≡ kindOf head ⌝ }
+{
+    match head {
+        Head::Bad => 0,
+        Head::Submit {
+            client: _,
+            number: _,
+            ack: _,
+        } => 1,
+        Head::Forward {
+            log_number: _,
+            client: _,
+            number: _,
+            ack: _,
+        } => 2,
+        Head::ShardAppend {
+            shard: _,
+            log_number: _,
+            sn: _,
+        } => 3,
+        Head::ExecNotif {
+            shard: _,
+            log_number: _,
+        } => 4,
+        Head::Executed { log_number: _ } => 5,
+        Head::Response {
+            client: _,
+            number: _,
+        } => 6,
+    }
+}
 
 fn shape_of(head: Head) -> Shape
     ensures { λ r. ⌜ r ≡ shapeOf head ⌝ }
@@ -358,13 +394,13 @@ fn items_at(shape: Shape, count: u8, s: &[u8], at: usize) -> [Item; 4]
     [a, b, c, d]
 }
 
-// The frame whose fields were read, with its list: the count at `at`, then the items.
-fn list_at(head: Head, s: &[u8], at: usize) -> Frame
-    requires { ⌜ at < 900 ⌝ }
-    ensures { λ r. ⌜ r ≡ listed head (now (s .entry)) at ⌝ }
+// The frame with these fields: the list stands behind them, its count first.
+fn list_of(head: Head, body: &[u8]) -> Frame
+    ensures { λ r. ⌜ r ≡ listed head (now (body .entry)) ⌝ }
 {
-    let count = byte(s, at);
-    let items = items_at(shape_of(head), count, s, at + 1);
+    let at = field_width(head);
+    let count = byte(body, at);
+    let items = items_at(shape_of(head), count, body, at + 1);
     Frame {
         head: head,
         count: count,
@@ -372,77 +408,68 @@ fn list_at(head: Head, s: &[u8], at: usize) -> Frame
     }
 }
 
-fn submit(body: &[u8]) -> Frame
+fn submit(body: &[u8]) -> Head
     ensures { λ r. ⌜ r ≡ readSubmit (now (body .entry)) ⌝ }
 {
-    let head = Head::Submit {
+    Head::Submit {
         client: byte(body, 0),
         number: u16_at(body, 1),
         ack: u16_at(body, 3),
-    };
-    list_at(head, body, 5)
+    }
 }
 
-fn forward(body: &[u8]) -> Frame
+fn forward(body: &[u8]) -> Head
     ensures { λ r. ⌜ r ≡ readForward (now (body .entry)) ⌝ }
 {
-    let head = Head::Forward {
+    Head::Forward {
         log_number: u16_at(body, 0),
         client: byte(body, 2),
         number: u16_at(body, 3),
         ack: u16_at(body, 5),
-    };
-    list_at(head, body, 7)
+    }
 }
 
-fn shard_append(body: &[u8]) -> Frame
+fn shard_append(body: &[u8]) -> Head
     ensures { λ r. ⌜ r ≡ readShardAppend (now (body .entry)) ⌝ }
 {
-    let head = Head::ShardAppend {
+    Head::ShardAppend {
         shard: byte(body, 0),
         log_number: u16_at(body, 1),
         sn: u16_at(body, 3),
-    };
-    list_at(head, body, 5)
+    }
 }
 
-fn exec_notif(body: &[u8]) -> Frame
+fn exec_notif(body: &[u8]) -> Head
     ensures { λ r. ⌜ r ≡ readExecNotif (now (body .entry)) ⌝ }
 {
-    let head = Head::ExecNotif {
+    Head::ExecNotif {
         shard: byte(body, 0),
         log_number: u16_at(body, 1),
-    };
-    list_at(head, body, 3)
+    }
 }
 
-fn executed(body: &[u8]) -> Frame
+fn executed(body: &[u8]) -> Head
     ensures { λ r. ⌜ r ≡ readExecuted (now (body .entry)) ⌝ }
 {
-    let head = Head::Executed {
+    Head::Executed {
         log_number: u16_at(body, 0),
-    };
-    list_at(head, body, 2)
+    }
 }
 
-fn response(body: &[u8]) -> Frame
+fn response(body: &[u8]) -> Head
     ensures { λ r. ⌜ r ≡ readResponse (now (body .entry)) ⌝ }
 {
-    let head = Head::Response {
+    Head::Response {
         client: byte(body, 0),
         number: u16_at(body, 1),
-    };
-    list_at(head, body, 3)
+    }
 }
 
 // "The two-byte kind decides the body's layout."
-fn candidate(s: &[u8]) -> Frame
-    requires { ⌜ 4 ≤ length (now s) ⌝ }
-    ensures { λ r. ⌜ r ≡ candidateOf (now (s .entry)) ⌝ }
+fn head_of(s: &[u8], body: &[u8]) -> Head
+    ensures { λ r. ⌜ r ≡ headOf (twoAt (now (s .entry)) 2) (now (body .entry)) ⌝ }
 {
-    let kind = u16_at(s, 2);
-    let start = 2 + HEADER;
-    let body = &s[start..];
+    let kind = u16_at(s, LENGTH);
     match kind {
         1 => submit(body),
         2 => forward(body),
@@ -450,8 +477,18 @@ fn candidate(s: &[u8]) -> Frame
         4 => exec_notif(body),
         5 => executed(body),
         6 => response(body),
-        _ => bad_frame(),
+        _ => Head::Bad,
     }
+}
+
+// The only frame that the slice can begin with.
+fn candidate(s: &[u8]) -> Frame
+    requires { ⌜ 4 ≤ length (now s) ⌝ }
+    ensures { λ r. ⌜ r ≡ candidateOf (now (s .entry)) ⌝ }
+{
+    let start = LENGTH + HEADER;
+    let body = &s[start..];
+    list_of(head_of(s, body), body)
 }
 
 // The frame where its rules hold, the length field is its own and its bytes are there; else the refusal.
@@ -461,7 +498,7 @@ fn accepted(f: Frame, s: &[u8]) -> Front
     let head = f.head;
     let len = len_of(head, f.count);
     let field = u16_at(s, 0) as usize;
-    let end = len + 2;
+    let end = len + LENGTH;
     let ok = frame_ok(f) & (field == len) & (end <= s.len());
     if ok {
         Front { frame: f, end: end }
@@ -474,7 +511,7 @@ fn accepted(f: Frame, s: &[u8]) -> Front
 pub fn read_front(s: &[u8]) -> Front
     ensures { λ r. ⌜ r ≡ readFront (now (s .entry)) ⌝ }
 {
-    let start = 2 + HEADER;
+    let start = LENGTH + HEADER;
     if s.len() < start {
         return no_front();
     }
@@ -592,110 +629,95 @@ fn put_header(out: &mut [u8], len: u16, kind: u16) -> usize
     put16(out, header, kind)
 }
 
-fn put_submit(
-    out: &mut [u8],
-    len: u16,
-    client: u8,
-    number: u16,
-    ack: u16,
-    count: u8,
-    items: [Item; 4],
-) -> usize
-    ensures { λ r. ⌜ Put (now (out .entry)) (now (out .exit)) 0 r (framed len (Head.Submit client number ack) count items) ⌝ }
+fn put_submit(out: &mut [u8], at: usize, client: u8, number: u16, ack: u16) -> usize
+    requires { ⌜ at < 100 ⌝ }
+    ensures { λ r. ⌜ Put (now (out .entry)) (now (out .exit)) at r (fieldBytes (Head.Submit client number ack)) ⌝ }
 {
-    let at = put_header(out, len, 1);
     let at = put8(out, at, client);
     let at = put16(out, at, number);
-    let at = put16(out, at, ack);
-    put_list(out, Shape::Operation, at, count, items)
+    put16(out, at, ack)
 }
 
 fn put_forward(
     out: &mut [u8],
-    len: u16,
+    at: usize,
     log_number: LogNumber,
     client: u8,
     number: u16,
     ack: u16,
-    count: u8,
-    items: [Item; 4],
 ) -> usize
-    ensures { λ r. ⌜ Put (now (out .entry)) (now (out .exit)) 0 r (framed len (Head.Forward «log_number» client number ack) count items) ⌝ }
+    requires { ⌜ at < 100 ⌝ }
+    ensures { λ r. ⌜ Put (now (out .entry)) (now (out .exit)) at r (fieldBytes (Head.Forward «log_number» client number ack)) ⌝ }
 {
-    let at = put_header(out, len, 2);
     let at = put16(out, at, log_number);
     let at = put8(out, at, client);
     let at = put16(out, at, number);
-    let at = put16(out, at, ack);
-    put_list(out, Shape::Operation, at, count, items)
+    put16(out, at, ack)
 }
 
-fn put_shard_append(
-    out: &mut [u8],
-    len: u16,
-    shard: u8,
-    log_number: LogNumber,
-    sn: u16,
-    count: u8,
-    items: [Item; 4],
-) -> usize
-    ensures { λ r. ⌜ Put (now (out .entry)) (now (out .exit)) 0 r (framed len (Head.ShardAppend shard «log_number» sn) count items) ⌝ }
+fn put_shard_append(out: &mut [u8], at: usize, shard: u8, log_number: LogNumber, sn: u16) -> usize
+    requires { ⌜ at < 100 ⌝ }
+    ensures { λ r. ⌜ Put (now (out .entry)) (now (out .exit)) at r (fieldBytes (Head.ShardAppend shard «log_number» sn)) ⌝ }
 {
-    let at = put_header(out, len, 3);
     let at = put8(out, at, shard);
     let at = put16(out, at, log_number);
-    let at = put16(out, at, sn);
-    put_list(out, Shape::Placed, at, count, items)
+    put16(out, at, sn)
 }
 
-fn put_exec_notif(
-    out: &mut [u8],
-    len: u16,
-    shard: u8,
-    log_number: LogNumber,
-    count: u8,
-    items: [Item; 4],
-) -> usize
-    ensures { λ r. ⌜ Put (now (out .entry)) (now (out .exit)) 0 r (framed len (Head.ExecNotif shard «log_number») count items) ⌝ }
+fn put_exec_notif(out: &mut [u8], at: usize, shard: u8, log_number: LogNumber) -> usize
+    requires { ⌜ at < 100 ⌝ }
+    ensures { λ r. ⌜ Put (now (out .entry)) (now (out .exit)) at r (fieldBytes (Head.ExecNotif shard «log_number»)) ⌝ }
 {
-    let at = put_header(out, len, 4);
     let at = put8(out, at, shard);
-    let at = put16(out, at, log_number);
-    put_list(out, Shape::Read, at, count, items)
+    put16(out, at, log_number)
 }
 
-fn put_executed(
-    out: &mut [u8],
-    len: u16,
-    log_number: LogNumber,
-    count: u8,
-    items: [Item; 4],
-) -> usize
-    ensures { λ r. ⌜ Put (now (out .entry)) (now (out .exit)) 0 r (framed len (Head.Executed «log_number») count items) ⌝ }
+fn put_executed(out: &mut [u8], at: usize, log_number: LogNumber) -> usize
+    requires { ⌜ at < 100 ⌝ }
+    ensures { λ r. ⌜ Put (now (out .entry)) (now (out .exit)) at r (fieldBytes (Head.Executed «log_number»)) ⌝ }
 {
-    let at = put_header(out, len, 5);
-    let at = put16(out, at, log_number);
-    put_list(out, Shape::Read, at, count, items)
+    put16(out, at, log_number)
 }
 
-fn put_response(
-    out: &mut [u8],
-    len: u16,
-    client: u8,
-    number: u16,
-    count: u8,
-    items: [Item; 4],
-) -> usize
-    ensures { λ r. ⌜ Put (now (out .entry)) (now (out .exit)) 0 r (framed len (Head.Response client number) count items) ⌝ }
+fn put_response(out: &mut [u8], at: usize, client: u8, number: u16) -> usize
+    requires { ⌜ at < 100 ⌝ }
+    ensures { λ r. ⌜ Put (now (out .entry)) (now (out .exit)) at r (fieldBytes (Head.Response client number)) ⌝ }
 {
-    let at = put_header(out, len, 6);
     let at = put8(out, at, client);
-    let at = put16(out, at, number);
-    put_list(out, Shape::Read, at, count, items)
+    put16(out, at, number)
 }
 
-// Writes the frame's bytes from the first byte of the out area on and returns how many these are. Where the frame has more than four
-// items or the room is too small it writes nothing and returns 0; a refused frame has no bytes.
+// The fields of each kind by its writer.
+fn put_fields(out: &mut [u8], at: usize, head: Head) -> usize
+    requires { ⌜ at < 100 ⌝ }
+    ensures { λ r. ⌜ Put (now (out .entry)) (now (out .exit)) at r (fieldBytes head) ⌝ }
+{
+    match head {
+        Head::Bad => at,
+        Head::Submit {
+            client,
+            number,
+            ack,
+        } => put_submit(out, at, client, number, ack),
+        Head::Forward {
+            log_number,
+            client,
+            number,
+            ack,
+        } => put_forward(out, at, log_number, client, number, ack),
+        Head::ShardAppend {
+            shard,
+            log_number,
+            sn,
+        } => put_shard_append(out, at, shard, log_number, sn),
+        Head::ExecNotif { shard, log_number } => put_exec_notif(out, at, shard, log_number),
+        Head::Executed { log_number } => put_executed(out, at, log_number),
+        Head::Response { client, number } => put_response(out, at, client, number),
+    }
+}
+
+// Writes the frame's bytes from the first byte of the out area on and returns how many these are. A refused frame has no bytes.
+// Where the frame has more than four items or the room is too small it writes nothing and returns 0.
 pub fn write_frame(f: Frame, out: &mut [u8]) -> usize
     ensures { λ r. ⌜ r ≡ writtenOf f (length (now (out .entry))) ⌝ }
     ensures { λ r. ⌜ now (out .exit) ≡ laidOf f (now (out .entry)) ⌝ }
@@ -703,38 +725,12 @@ pub fn write_frame(f: Frame, out: &mut [u8]) -> usize
     let head = f.head;
     let count = f.count;
     let items = f.items;
+    let kind = kind_of(head);
     let len = len_of(head, count);
-    if (4 < count) | (out.len() < len + 2) {
+    if (kind == 0) | (4 < count) | (out.len() < len + LENGTH) {
         return 0;
     }
-    let len = len as u16;
-    match head {
-        Head::Bad => 0,
-        Head::Submit {
-            client,
-            number,
-            ack,
-        } => put_submit(out, len, client, number, ack, count, items),
-        Head::Forward {
-            log_number,
-            client,
-            number,
-            ack,
-        } => put_forward(out, len, log_number, client, number, ack, count, items),
-        Head::ShardAppend {
-            shard,
-            log_number,
-            sn,
-        } => put_shard_append(out, len, shard, log_number, sn, count, items),
-        Head::ExecNotif { shard, log_number } => put_exec_notif(
-            out,
-            len,
-            shard,
-            log_number,
-            count,
-            items,
-        ),
-        Head::Executed { log_number } => put_executed(out, len, log_number, count, items),
-        Head::Response { client, number } => put_response(out, len, client, number, count, items),
-    }
+    let at = put_header(out, len as u16, kind);
+    let at = put_fields(out, at, head);
+    put_list(out, shape_of(head), at, count, items)
 }

@@ -4,7 +4,7 @@ use Rattle.frames.proofs.put_exec_notif.Statement.{statement}
 use Rattle.frames.proofs.put_exec_notif.Tie as tie
 
 returns : tie.Need-returns
-returns c = behind (behind (behind (c .before .before .before .before .before .before .before .before .before .before .before .before .before .before .put-header .ensures) (c .before .before .before .before .before .before .before .before .before .before .put8 .ensures)) (c .before .before .before .before .before .before .put16 .ensures)) (c .before .before .put-list .ensures)
+returns c = behind (c .before .before .before .before .before .before .put8 .ensures) (c .before .before .put16 .ensures)
 
 pub put-exec-notif-spec : {M : Type 1} → statement M
-put-exec-notif-spec = tie.close (tie.spec (λ c κs. search needs) (λ c κs. search needs) (λ c κs. search needs) (λ c κs. search needs) (λ c. search needs) returns)
+put-exec-notif-spec = tie.close (tie.spec (λ c κs. search needs) (λ c κs. search needs) (λ c. search needs) returns)
