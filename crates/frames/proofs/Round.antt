@@ -49,6 +49,29 @@ good-head (ExecNotif a b) n t = refl
 good-head (Executed a) n t = refl
 good-head (Response a b) n t = refl
 
+-- whatever the bytes, what the reader gives has four slots and at most four items
+pub record Few (f : Frame) : Type 0 where
+  pub count : f .count ≤ 4
+  pub items : length (f .items) ≡ 4
+
+bad-few : Few badFrame
+unfolding badFrame
+bad-few = record { count = omega arith; items = refl }
+
+pub front-few : (s : List ℕ) → Few (readFront s .frame)
+unfolding readFront accept noFront candidateOf listed
+front-few s =
+    let f = candidateOf s in
+    let n : ℕ = lenOf (f .head) (f .count) in
+    by (λ (r : Front). Few (r .frame)) (taken f s)
+    (λ t.
+    let v = and-l (valid f) (eqb (twoAt s 0) n) (and-l (valid f && eqb (twoAt s 0) n) (leb (n + 2) (length s)) t) in
+    record { count = enough 0 (f .count) (f .items) (items-of f v); items = refl }) (λ t. bad-few)
+
+pub frame-few : (s : List ℕ) → Few (readFrame s)
+unfolding readFrame
+frame-few s = by Few (eqb (readFront s .end) (length s)) (λ t. front-few s) (λ t. bad-few)
+
 -- ---- What is written reads back
 
 accepts-it : (f : Frame) (s : List ℕ) → T (valid f) → twoAt s 0 ≡ lenOf (f .head) (f .count) → lenOf (f .head) (f .count) + 2 ≤ length s

@@ -9,68 +9,20 @@ use native.Mathlib.Omega.{arith}
 use lib.Dec.{T, nltb→le, ltb→lt}
 use lib.ListN.{length, drop, length-set}
 use Rattle.rules.specs.Lists.{_<?_, _≤?_, _=?_}
-use Rattle.rules.specs.Frames.{twoAt, headerWidth}
 use Rattle.rules.specs.Outcomes.{unusable}
 use Rattle.rules.proofs.Lists.{by, and-l, and-r}
 use Rattle.frames.specs.declared.Item.{Item}
 use Rattle.frames.specs.declared.Frame.{Frame}
-use Rattle.frames.specs.declared.Front.{Front}
-use Rattle.frames.specs.Frames.{lenOf, okItem, okFrom, okItems, okHead, valid, badFrame, readSubmit, readForward, readShardAppend, readExecNotif, readExecuted, readResponse, byKind, candidateOf, noFront, taken, accept, readFront, readFrame, frameBytes}
+use Rattle.frames.specs.Frames.{readFrame, frameBytes}
 use Rattle.frames.proofs.Puts.{length-frame}
+use Rattle.frames.proofs.Round.{Few, frame-few}
 use Rattle.shard.specs.declared.Cell.{Cell}
 use Rattle.shard.specs.declared.Reads.{Reads}
 use Rattle.shard.specs.declared.Verdict.{Verdict}
 use Rattle.shard.specs.Model.{readOf, noted, noReads, Running, turn, ran, judge, execNotif}
 
-pub record Few (f : Frame) : Type 0 where
-  pub count : f .count ≤ 4
-  pub items : length (f .items) ≡ 4
-
-bad-few : Few badFrame
-unfolding badFrame
-bad-few = record { count = omega arith; items = refl }
-
--- a list whose items are tested has them
-tested : (p n : ℕ) (xs : List Item) → T (okFrom p n xs) → n ≤ length xs
-tested p zero xs t = omega arith
-tested p (suc n) [] t = absurd t
-tested p (suc n) (x ∷ xs) t =
-    let h = tested (suc (x .place)) n xs (and-r (p ≤? x .place && okItem x) (okFrom (suc (x .place)) n xs) t) in
-    omega arith
-
--- every candidate has four slots
-four-slots : (kind : ℕ) (body : List ℕ) → length (byKind kind body .items) ≡ 4
-unfolding byKind readSubmit readForward readShardAppend readExecNotif readExecuted readResponse badFrame
-four-slots kind body =
-    by Four (kind =? 1) (λ t. refl) λ t.
-    by Four (kind =? 2) (λ t. refl) λ t.
-    by Four (kind =? 3) (λ t. refl) λ t.
-    by Four (kind =? 4) (λ t. refl) λ t.
-    by Four (kind =? 5) (λ t. refl) λ t.
-    by Four (kind =? 6) (λ t. refl) λ t. refl
-  where
-    Four : Frame → Type 0
-    Four f = length (f .items) ≡ 4
-
-accept-few : (f : Frame) (s : List ℕ) → length (f .items) ≡ 4 → Few (accept f s .frame)
-unfolding accept valid noFront
-accept-few f s l =
-    by (λ (r : Front). Few (r .frame)) (taken f s)
-    (λ t.
-    let a : Bool = okHead (f .head) (f .count) && okItems (f .count) (f .items) in
-    let b : Bool = twoAt s 0 =? lenOf (f .head) (f .count) in
-    let c : Bool = lenOf (f .head) (f .count) + 2 ≤? length s in
-    let h = tested 0 (f .count) (f .items) (and-r (okHead (f .head) (f .count)) (okItems (f .count) (f .items)) (and-l a b (and-l (a && b) c t))) in
-    record { count = omega arith; items = l })
-    (λ t. bad-few)
-
-pub read-few : (s : List ℕ) → Few (readFrame s)
-unfolding readFrame readFront candidateOf
-read-few s =
-    by Few (readFront s .end =? length s) (λ t. accept-few (candidateOf s) s (four-slots (twoAt s 2) (drop (2 + headerWidth) s))) (λ t. bad-few)
-
 pub few-of : (f : Frame) (s : List ℕ) → f ≡ readFrame s → Few f
-few-of f s e = rw e (read-few s)
+few-of f s e = rw e (frame-few s)
 
 -- ---- The reads of a run are at most four
 
