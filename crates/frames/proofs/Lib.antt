@@ -1,5 +1,6 @@
 pub mod Cases
 pub mod Puts
+pub mod Behind
 pub mod Lists
 pub mod Round
 pub mod Items

@@ -20,10 +20,11 @@ use Rattle.frames.specs.declared.Shape.the-variants.{Operation, Placed, 
 use Rattle.frames.specs.declared.Head.{Head}
 use Rattle.frames.specs.declared.Head.the-variants.{Bad, Submit, Forward, ShardAppend, ExecNotif, Executed, Response}
 use Rattle.frames.specs.declared.Frame.{Frame}
-use Rattle.frames.specs.Frames.{kindOf, fieldBytes, shapeOf, isBad, itemBytes, headerBytes, listBytes, framed, frameBytes, lenOf, okItem, okFrom, okItems, okWindow, okHead, valid, badFrame, readFrame}
+use Rattle.frames.specs.declared.Front.{Front}
+use Rattle.frames.specs.Frames.{kindOf, fieldBytes, shapeOf, isBad, itemBytes, headerBytes, listBytes, framed, frameBytes, lenOf, okItem, okFrom, okItems, okWindow, okHead, valid, badFrame, noFront, readFront, readFrame, framesBytes}
 use Rattle.frames.specs.View.{asOperation, asPlaced, asRead, operationsOf, placedOf, readsOf, answerOf, answerTo, meant, meaning, encoded, Bytes, Canon, CanonFrom, CanonItem, CanonFrame, operationItems, placedItem, readItem, filled, recordOf}
 use Rattle.frames.proofs.Puts.{bad-bytes, frame-bytes, length-framed}
-use Rattle.frames.proofs.Round.{enough, head-of, items-of, Spells, reads, frame-back}
+use Rattle.frames.proofs.Round.{enough, head-of, items-of, fronts, Spells, reads, frame-back}
 use Rattle.frames.proofs.Items as I
 
 -- ---- The bytes
@@ -352,3 +353,122 @@ unfolding meaning
 promised s f b e =
     let m : meaning f ≡ decode s = ap meaning e ∙ reads-mean s b in
     (answer-means (f .head) (f .count) (f .items) ∙ ap answerTo m, m)
+
+-- ---- What an agent needs of a frame that it read, and of one that it sends
+
+-- what was read and is no refusal is right, lies as it should, and spells the bytes
+pub read-spells : (s : List ℕ) → Bytes s → T (not (isBad (readFrame s .head))) → Spells s (readFrame s)
+read-spells s b = reads s b (λ (f : Frame). T (not (isBad (f .head))) → Spells s f) (unfold badFrame in (λ t. absurd t)) (λ f g t. g)
+
+-- a refusal lies as it should, too
+pub read-canon : (s : List ℕ) → Bytes s → CanonFrame (readFrame s)
+read-canon s b = reads s b CanonFrame (unfold badFrame in (refl, (refl, (refl, (refl, (refl, tt)))))) (λ f g. g .canon)
+
+-- a frame that obeys the rules has a right record where its items are right
+many : (n : ℕ) (b : Bool) (k : ℕ) → k ≡ n → T (within 1 4 k && b) → T (leb 1 n)
+many n b k e t = rw e at (and-l (leb 1 k) (leb k 4) (and-l (within 1 4 k) b t))
+
+window-obeys : (n : ℕ) (xs : List Item) (client number ack : ℕ) → T (okItems n xs)
+    → T (okWrite (record { client = client; number = number; operations = operationsOf n xs }) ack) → T (leb 1 n && leb client 15) × T (okWindow number ack)
+unfolding okOperations
+window-obeys n xs client number ack t o =
+    let w : R.Write = record { client = client; number = number; operations = operationsOf n xs } in
+    let r = write-rules w ack o in (
+      and (leb 1 n) (leb client 15) (many n (every okOperation (operationsOf n xs)) (length (operationsOf n xs)) (I.view-length asOperation 0 n xs t) (r .operations))
+          (le→leb client 15 (r .client)),
+      window-of w ack r,
+    )
+
+head-allowed : (h : Head) (n : ℕ) (xs : List Item) → isBad h ≡ false → T (okItems n xs) → Obeying (meant h n xs) → T (okHead h n)
+unfolding obeys Obeying okPlaced
+head-allowed Bad n xs b t o = let z : _≡_ {A = ℕ} 0 1 = cc in absurd (omega arith)
+head-allowed (Submit client number ack) n xs b t o =
+    let w = window-obeys n xs client number ack t o in and (leb 1 n && leb client 15) (okWindow number ack) (w .0) (w .1)
+head-allowed (Forward log client number ack) n xs b t o =
+    let k : Bool = okWrite (record { client = client; number = number; operations = operationsOf n xs }) ack in
+    let w = window-obeys n xs client number ack t (and-r (okInd log) k o) in
+    and (leb 1 n && leb log 255 && leb client 15) (okWindow number ack)
+    (and (leb 1 n && leb log 255) (leb client 15) (and (leb 1 n) (leb log 255) (and-l (leb 1 n) (leb client 15) (w .0)) (and-l (okInd log) k o))
+    (and-r (leb 1 n) (leb client 15) (w .0))) (w .1)
+head-allowed (ShardAppend shard log sn) n xs b t o =
+    let j : Bool = within 1 8 shard in
+    let i : Bool = leb log 255 in
+    let k : Bool = within 1 256 sn in
+    let ys = placedOf n xs in
+    let p : Bool = rising 0 (map (λ (x : R.Placed). x .place) ys) in
+    let q : Bool = every (λ x. okOperation (x .operation)) ys in
+    let a = and-l (j && i && k) (within 1 4 (length ys) && p && q) o in
+    let c = and-l (j && i) k a in
+    let l = many n p (length ys) (I.view-length asPlaced 0 n xs t) (and-l (within 1 4 (length ys) && p) q (and-r (j && i && k) (within 1 4 (length ys) && p && q) o)) in
+    and (leb 1 n && j && i) k (and (leb 1 n && j) i (and (leb 1 n) j l (and-l j i c)) (and-r j i c)) (and-r (j && i) k a)
+head-allowed (ExecNotif shard log) n xs b t o = and-l (within 1 8 shard && okInd log) (okReads (readsOf n xs)) o
+head-allowed (Executed log) n xs b t o = and-l (okInd log) (okReads (readsOf n xs)) o
+head-allowed (Response client number) n xs b t o = and-l (okClient client && okNumber number) (okReads (readsOf n xs)) o
+
+-- what means something is no refusal
+speaks : (h : Head) (n : ℕ) (xs : List Item) (g : F.Frame) → meant h n xs ≡ some g → isBad h ≡ false
+speaks Bad n xs g e = nothing e
+speaks (Submit a b c) n xs g e = refl
+speaks (Forward a b c d) n xs g e = refl
+speaks (ShardAppend a b c) n xs g e = refl
+speaks (ExecNotif a b) n xs g e = refl
+speaks (Executed a) n xs g e = refl
+speaks (Response a b) n xs g e = refl
+
+pub valid-of : (f : Frame) (g : F.Frame) → T (okItems (f .count) (f .items)) → meaning f ≡ some g → T (obeys g) → T (valid f)
+unfolding valid meaning Obeying
+valid-of f g t e o =
+    let m : Obeying (meant (f .head) (f .count) (f .items)) = rw e o in
+    and (okHead (f .head) (f .count)) (okItems (f .count) (f .items)) (head-allowed (f .head) (f .count) (f .items) (speaks (f .head) (f .count) (f .items) g e) t m) t
+
+-- a right record that lies as it should is the record of what it means
+recordOfMeant : Option F.Frame → Frame
+recordOfMeant none = badFrame
+recordOfMeant (some g) = recordOf g
+
+record-meant : (h : Head) (n : ℕ) (xs : List Item) → isBad h ≡ false → T (okItems n xs) → length xs ≡ 4 → Canon (shapeOf h) n xs
+    → recordOfMeant (meant h n xs) ≡ record { head = h; count = n; items = xs }
+unfolding recordOfMeant
+record-meant Bad n xs b t l c = let z : _≡_ {A = ℕ} 0 1 = cc in absurd (omega arith)
+record-meant (Submit client number ack) n xs b t l c =
+    λ i. record { head = Submit client number ack; count = I.view-length asOperation 0 n xs t i; items = (rw l at (I.operations-made 0 0 n xs t c)) i }
+record-meant (Forward log client number ack) n xs b t l c =
+    λ i. record { head = Forward log client number ack; count = I.view-length asOperation 0 n xs t i; items = (rw l at (I.operations-made 0 0 n xs t c)) i }
+record-meant (ShardAppend shard log sn) n xs b t l c =
+    λ i. record { head = ShardAppend shard log sn; count = I.view-length asPlaced 0 n xs t i; items = (rw l at (I.items-made asPlaced placedItem Placed I.placed-made 0 0 n xs t c)) i }
+record-meant (ExecNotif shard log) n xs b t l c =
+    λ i. record { head = ExecNotif shard log; count = I.view-length asRead 0 n xs t i; items = (rw l at (I.items-made asRead readItem Read I.read-made 0 0 n xs t c)) i }
+record-meant (Executed log) n xs b t l c =
+    λ i. record { head = Executed log; count = I.view-length asRead 0 n xs t i; items = (rw l at (I.items-made asRead readItem Read I.read-made 0 0 n xs t c)) i }
+record-meant (Response client number) n xs b t l c =
+    λ i. record { head = Response client number; count = I.view-length asRead 0 n xs t i; items = (rw l at (I.items-made asRead readItem Read I.read-made 0 0 n xs t c)) i }
+
+pub record-of : (f : Frame) (g : F.Frame) → T (okItems (f .count) (f .items)) → CanonFrame f → meaning f ≡ some g → recordOf g ≡ f
+unfolding meaning recordOfMeant
+record-of f g t (l, c) e =
+    ap recordOfMeant (sym e) ∙ record-meant (f .head) (f .count) (f .items) (speaks (f .head) (f .count) (f .items) g e) t l c
+
+-- the reader of a front means the rules' reading of the bytes up to the end that it gives
+pub front-means : (s : List ℕ) → Bytes s → meaning (readFront s .frame) ≡ decode (take (readFront s .end) s)
+front-means s b =
+    fronts s b (λ (r : Front). meaning (r .frame) ≡ decode (take (r .end) s)) (unfold noFront badFrame meaning decode F.candidate F.spelled if_then_else_ in refl)
+    (λ r g. ap meaning (sym (frame-back (r .frame) (g .right) (g .canon)) ∙ ap readFrame (g .bytes)) ∙ reads-mean (take (r .end) s) (bytes-take (r .end) s b))
+  where
+    bytes-take : (n : ℕ) (s : List ℕ) → Bytes s → Bytes (take n s)
+    bytes-take zero s b i = omega arith
+    bytes-take (suc n) [] b i = omega arith
+    bytes-take (suc n) (x ∷ s) b zero = b zero
+    bytes-take (suc n) (x ∷ s) b (suc i) = bytes-take n s (λ j. b (suc j)) i
+
+-- frames sent in turn have the rules' bytes, back to back
+abbrev pub Sends : List Frame → List F.Frame → Type 0
+Sends [] [] = Unit
+Sends [] (g ∷ gs) = ⊥
+Sends (f ∷ fs) [] = ⊥
+Sends (f ∷ fs) (g ∷ gs) = (T (okItems (f .count) (f .items)) × (meaning f ≡ some g)) × Sends fs gs
+
+pub sent-bytes : (fs : List Frame) (gs : List F.Frame) → Sends fs gs → framesBytes fs ≡ backToBack encode gs
+sent-bytes [] [] h = refl
+sent-bytes [] (g ∷ gs) h = absurd h
+sent-bytes (f ∷ fs) [] h = absurd h
+sent-bytes (f ∷ fs) (g ∷ gs) ((t, m), h) = λ i. (writes-mean f t ∙ ap encoded m) i ++ sent-bytes fs gs h i

@@ -2,12 +2,12 @@
 -- Numbers and their bytes are the rules' own (two, four, byteAt, twoAt, fourAt). Assumes nothing.
 use mathlib.Core.Bool.{Bool, true, false, _&&_, _||_}
 use mathlib.Core.List.{List, [], _∷_, _++_}
-use Prim.Native.Nat.{ℕ, zero, suc, _+_, _*_, _≤_}
+use Prim.Native.Nat.{ℕ, zero, suc, _+_, _*_, _-_}
 use lib.ListN.{length, take, drop}
 use lib.Seq.{sets}
 use mathlib.Core.Path.{_≡_}
 use Rattle.rules.specs.Lists.{if_then_else_, _<?_, _≤?_, _=?_, within}
-use Rattle.rules.specs.Frames.{two, four, byteAt, twoAt, fourAt, headerWidth}
+use Rattle.rules.specs.Frames.{two, four, byteAt, twoAt, fourAt, headerWidth, backToBack}
 use Rattle.frames.specs.declared.Item.{Item}
 use Rattle.frames.specs.declared.Shape.{Shape}
 use Rattle.frames.specs.declared.Shape.the-variants.{Operation, Placed, Read}
@@ -241,3 +241,19 @@ writtenOf f room = if fits f room then length (frameBytes f) else 0
 -- the out area afterwards: the frame's bytes from the first on and all others as they were, or no byte written
 unfoldable pub laidOf : Frame → List ℕ → List ℕ
 laidOf f out = if fits f (length out) then frameBytes f ++ drop (length (frameBytes f)) out else out
+
+-- a frame written behind what stands in the first `at` bytes: where its bytes end, and the out area afterwards
+unfoldable pub endOf : Frame → ℕ → ℕ → ℕ
+endOf f at room = if at ≤? room then at + writtenOf f (room - at) else at
+
+unfoldable pub laidBehind : Frame → ℕ → List ℕ → List ℕ
+laidBehind f at out = if at ≤? length out then take at out ++ laidOf f (drop at out) else out
+
+-- frames written one behind the other, the first at `at`
+abbrev pub laidAll : List Frame → ℕ → List ℕ → List ℕ
+laidAll [] at out = out
+laidAll (f ∷ fs) at out = laidAll fs (endOf f at (length out)) (laidBehind f at out)
+
+-- their bytes back to back
+abbrev pub framesBytes : List Frame → List ℕ
+framesBytes fs = backToBack frameBytes fs

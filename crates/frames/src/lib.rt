@@ -6,7 +6,7 @@ ghost use Prim.Native.Nat.{_+_, _*_, _<_, _≤_};
 ghost use lib.ListN.{length, take, drop, set};
 ghost use lib.Seq.{sets};
 ghost use Rattle.rules.specs.Frames.{two, four, byteAt, twoAt, fourAt, decode};
-ghost use Rattle.frames.specs.Frames.{kindOf, fieldBytes, fieldWidth, shapeOf, width, itemBytes, slotBytes, listBytes, headerBytes, lenOf, okItem, okItems, okWindow, okHead, valid, noItem, badFrame, itemAt, slotAt, slots, readSubmit, readForward, readShardAppend, readExecNotif, readExecuted, readResponse, headOf, listed, candidateOf, noFront, accept, readFront, readFrame, Put, writtenOf, laidOf};
+ghost use Rattle.frames.specs.Frames.{kindOf, fieldBytes, fieldWidth, shapeOf, width, itemBytes, slotBytes, listBytes, headerBytes, lenOf, okItem, okItems, okWindow, okHead, valid, noItem, badFrame, itemAt, slotAt, slots, readSubmit, readForward, readShardAppend, readExecNotif, readExecuted, readResponse, headOf, listed, candidateOf, noFront, accept, readFront, readFrame, Put, writtenOf, laidOf, endOf, laidBehind};
 ghost use Rattle.frames.specs.View.{answerOf, answerTo, meaning};
 
 // The place of an entry in the log: "log number 0..255", two bytes in a frame.
@@ -733,4 +733,17 @@ pub fn write_frame(f: Frame, out: &mut [u8]) -> usize
     let at = put_header(out, len as u16, kind);
     let at = put_fields(out, at, head);
     put_list(out, shape_of(head), at, count, items)
+}
+
+// The same behind the first `at` bytes, for frames back to back: returns where the frame's bytes end, and `at` where it writes nothing.
+// Several in turn leave all their bytes from the first on and nothing else changed: `lays-all`.
+pub fn write_behind(f: Frame, out: &mut [u8], at: usize) -> usize
+    ensures { λ r. ⌜ r ≡ endOf f at (length (now (out .entry))) ⌝ }
+    ensures { λ r. ⌜ now (out .exit) ≡ laidBehind f at (now (out .entry)) ⌝ }
+{
+    if out.len() < at {
+        return at;
+    }
+    let bytes = write_frame(f, &mut out[at..]);
+    at + bytes
 }
