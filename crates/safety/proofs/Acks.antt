@@ -2,17 +2,16 @@
 -- that arrives and sends no ack above its floor, a session sends that number itself, and it never falls.
 -- Assumes nothing.
 use mathlib.Core.Path.{_≡_, refl}
-use mathlib.Core.Bool.{Bool}
 use mathlib.Core.List.{List, [], _∷_, map}
-use mathlib.Core.Option.{Option, none, some}
-use Prim.Native.Nat.{ℕ, suc, _≤_, min, max}
+use Prim.Native.Nat.{ℕ, suc, _≤_, max}
 use native.Mathlib.Omega.{arith}
 use lib.Dec.{T, eqb}
-use Rattle.rules.specs.Lists.{at, snoc, changed}
+use lib.ListN.{length}
+use Rattle.rules.specs.Lists.{snoc, changed}
 use Rattle.rules.specs.Transactions.{Operation, Write, Read}
 use Rattle.rules.specs.Frames.{Frame, submit, forward, shardAppend, execNotif, executed, response}
 use Rattle.rules.specs.Outcomes.{Outcome, taken, refuse}
-use Rattle.rules.specs.Board.{Entry, Board, writes, find, holding, raiseFloor, append, settle, forwardOf, shardAppendOf, backward, onward, serveNew, serveHeld, serveFound, submitStep, forwardStep, heardFrom, execNotifStep, finished, executedStep, frameStep}
+use Rattle.rules.specs.Board.{Entry, Board, holding, raiseFloor, newEntry, append, settle, forwardOf, shardAppendOf, backward, onward, serveNew, heardFrom, finished}
 use Rattle.rules.specs.Board as B
 use Rattle.rules.specs.Shard as S
 use Rattle.rules.specs.Session as C
@@ -25,7 +24,7 @@ use Rattle.safety.specs.Machine.{All, Ran, stayed, went}
 use Rattle.safety.specs.Further.{least, AckLow}
 use Rattle.safety.proofs.Lists.{changed-same, changed-all}
 use Rattle.safety.proofs.Flight.{InFlight, Flies, arrives, flies-map, more-fly}
-use Rattle.safety.proofs.Local.{afterInvoke}
+use Rattle.safety.proofs.Deeds.{Carries, by-submit, by-forward, Deed, refused, held, new, heard, ended, frame-deed, afterInvoke}
 use Rattle.safety.proofs.Happens.{Happened, nothing-happened, board-stepped, shard-stepped, client-invoked, client-retried, client-answered, withInvoked, withRetried, withReply, afterAnswer}
 use Rattle.safety.proofs.Known.{Known, board-obeys, shard-obeys, shard-ran}
 
@@ -67,68 +66,22 @@ module _ (most : ℕ → ℕ) where
   unfolding raiseFloor holding
   raised-low b c ack h l = changed-all (λ d x. x ≤ most d) (b .floor) c (max (b .floor c) ack) (let k = h c in omega arith) h
 
-module _ (most : ℕ → ℕ) (b : Board) (h : FloorsLow most b) where
-  refused-low : (r : ℕ) → Low most (refuse r b)
-  unfolding refuse
-  refused-low r = record { floors = h; frames = tt }
+  -- the ack that a frame carries
+  carried : (f : Frame) (w : Write) (ack : ℕ) → Carries f w ack → AckLow most f → ack ≤ most (w .client)
+  carried _ w ack (by-submit _ _) l = l
+  carried _ w ack (by-forward ind _ _) l = l
 
-  new-low : (w : Write) (ack : ℕ) → ack ≤ most (w .client) → Low most (serveNew b w ack)
-  unfolding serveNew taken append holding
-  new-low w ack l =
-      let floors = raised-low most b (w .client) ack h l in
-      record { floors = floors; frames = onward-low most (append w (raiseFloor (w .client) ack b)) _ _ floors }
-
-  held-low : (ind : ℕ) (w : Write) (ack : ℕ) (o : Option Entry) → ack ≤ most (w .client) → Low most (serveHeld b ind w ack o)
-  unfolding serveHeld taken
-  held-low ind w ack none l = refused-low _
-  held-low ind w ack (some e) l =
-      by (Low most) _ (λ t. refused-low _) λ t.
-      let floors = raised-low most b (w .client) ack h l in
-      record { floors = floors; frames = onward-low most (raiseFloor (w .client) ack b) ind e floors }
-
-  found-low : (w : Write) (ack : ℕ) (o : Option ℕ) → ack ≤ most (w .client) → Low most (serveFound b w ack o)
-  unfolding serveFound
-  found-low w ack none l = refused-low _
-  found-low w ack (some ind) l = held-low ind w ack (at (b .log) ind) l
-
-  submit-low : (w : Write) (ack : ℕ) → ack ≤ most (w .client) → Low most (submitStep b w ack)
-  unfolding submitStep
-  submit-low w ack l =
-      by (Low most) _ (λ t. refused-low _) λ t.
-      by (Low most) _ (λ t. refused-low _) λ t.
-      by (Low most) _ (λ t. found-low w ack (find (w .client) (w .number) (writes (b .log))) l) λ t.
-      by (Low most) _ (λ t. refused-low _) (λ t. new-low w ack l)
-
-  forward-low : (ind : ℕ) (w : Write) (ack : ℕ) → ack ≤ most (w .client) → Low most (forwardStep b ind w ack)
-  unfolding forwardStep
-  forward-low ind w ack l =
-      by (Low most) _ (λ t. refused-low _) λ t.
-      by (Low most) _ (λ t. held-low ind w ack (at (b .log) ind) l) λ t.
-      by (Low most) _ (λ t. refused-low _) (λ t. new-low w ack l)
-
-  notif-low : (j ind : ℕ) (rs : List Read) (o : Option Entry) → Low most (execNotifStep b j ind rs o)
-  unfolding execNotifStep taken settle holding
-  notif-low j ind rs none = refused-low _
-  notif-low j ind rs (some e) =
-      by (Low most) _ (λ t. refused-low _) λ t.
-      by (Low most) _ (λ t. refused-low _) λ t.
-      record { floors = h; frames = by (All (AckLow most)) _ (λ u. (back-low most b ind (heardFrom j rs e), tt)) (λ u. tt) }
-
-  executed-low : (ind : ℕ) (rs : List Read) (o : Option Entry) → Low most (executedStep b ind rs o)
-  unfolding executedStep taken settle holding
-  executed-low ind rs none = refused-low _
-  executed-low ind rs (some e) =
-      by (Low most) _ (λ t. refused-low _) λ t.
-      by (Low most) _ (λ t. refused-low _) (λ t. record { floors = h; frames = (back-low most b ind (finished rs e), tt) })
-
-  pub frame-low : (f : Frame) → AckLow most f → Low most (frameStep b f)
-  unfolding frameStep
-  frame-low (submit w ack) l = by (Low most) _ (λ t. submit-low w ack l) (λ t. refused-low _)
-  frame-low (forward ind w ack) l = by (Low most) _ (λ t. forward-low ind w ack l) (λ t. refused-low _)
-  frame-low (shardAppend j ind sn xs) l = refused-low _
-  frame-low (execNotif j ind rs) l = by (Low most) _ (λ t. notif-low j ind rs (at (b .log) ind)) (λ t. refused-low _)
-  frame-low (executed ind rs) l = by (Low most) _ (λ t. executed-low ind rs (at (b .log) ind)) (λ t. refused-low _)
-  frame-low (response c k rs) l = refused-low _
+  pub deed-low : (b : Board) (f : Frame) (o : Outcome Board) → FloorsLow most b → AckLow most f → Deed b f o → Low most o
+  unfolding refuse taken serveNew append settle holding
+  deed-low b _ _ h l (refused r f) = record { floors = h; frames = tt }
+  deed-low b _ _ h l (held f w ind ack e c a) =
+      let floors = raised-low b (w .client) ack h (carried f w ack c l) in
+      record { floors = floors; frames = onward-low (raiseFloor (w .client) ack b) ind e floors }
+  deed-low b _ _ h l (new f w ack c from) =
+      let floors = raised-low b (w .client) ack h (carried f w ack c l) in
+      record { floors = floors; frames = onward-low (append w (raiseFloor (w .client) ack b)) (length (b .log)) (newEntry (b .m) w) floors }
+  deed-low b _ _ h l (heard j ind rs e a t) = record { floors = h; frames = by (All (AckLow most)) _ (λ u. (back-low b ind (heardFrom j rs e), tt)) (λ u. tt) }
+  deed-low b _ _ h l (ended ind rs e a) = record { floors = h; frames = (back-low b ind (finished rs e), tt) }
 
 -- ---- Windows
 
@@ -174,7 +127,7 @@ board-acks : (n m : ℕ) (w : World rules) (i : ℕ) (f : Frame) → Known n m w
     → AcksKnown (afterBoard rules n w i (B.frameStep (w .boards i) f))
 unfolding afterBoard
 board-acks n m w i f k x t a =
-    let low = frame-low (least (w .sessions)) (w .boards i) (a .floors i) f (arrives (LowTo (least (w .sessions))) (w .sent) (board i) f (a .flight) x) in
+    let low = deed-low (least (w .sessions)) (w .boards i) f (B.frameStep (w .boards i) f) (a .floors i) (arrives (LowTo (least (w .sessions))) (w .sent) (board i) f (a .flight) x) (frame-deed (w .boards i) f) in
     record {
       floors = changed-all (λ j b. FloorsLow (least (w .sessions)) b) (w .boards) i (B.frameStep (w .boards i) f .state) (low .floors) (a .floors);
       flight = more-fly (LowTo (least (w .sessions))) (w .sent) n i (B.frameStep (w .boards i) f .frames) (a .flight) (low .frames) (board-obeys n m i (w .boards i) f (k .boards i) t (x .rules));

@@ -20,7 +20,7 @@ use Rattle.safety.specs.World.{ReplyTaken, World, rules, start, afterBoa
 use Rattle.safety.specs.Machine.{All}
 use Rattle.safety.specs.Further.{Answered}
 use Rattle.safety.proofs.Lists.{changed-all, at-snoc-old, at-snoc-new}
-use Rattle.safety.proofs.Local.{afterInvoke}
+use Rattle.safety.proofs.Deeds.{afterInvoke}
 use Rattle.safety.proofs.Happens.{Happened, nothing-happened, board-stepped, shard-stepped, client-invoked, client-retried, client-answered, afterAnswer}
 
 -- a number is not among those outstanding

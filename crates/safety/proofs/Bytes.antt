@@ -1,18 +1,17 @@
 -- A frame that obeys the rules is spelled in bytes: each number of it is at most 255.
 -- Assumes nothing.
-use mathlib.Core.Path.{_≡_, refl}
-use mathlib.Core.Bool.{Bool, true, false, _&&_}
+use mathlib.Core.Bool.{Bool, _&&_}
 use mathlib.Core.List.{List, [], _∷_, _++_, map}
 use mathlib.Core.Option.{Option, none, some}
-use Prim.Native.Nat.{ℕ, suc, _+_, _%_, _/_, _≤_}
+use Prim.Native.Nat.{ℕ, suc, _%_, _/_, _≤_}
 use native.Mathlib.Omega.{arith}
-use lib.Dec.{T, leb, leb→le, le→leb}
+use lib.Dec.{T, leb→le, le→leb}
 use lib.ListN.{length}
 use Rattle.rules.specs.Lists.{_≤?_, within, every}
 use Rattle.rules.specs.Transactions.{Operation, get, put, Write, Placed, Read}
 use Rattle.rules.specs.Frames.{Frame, submit, forward, shardAppend, execNotif, executed, response, okClient, okNumber, okInd, okOperation, okOperations, okWrite, okPlaced, okSeen, okReads, rising, obeys, two, four, operationBytes, placedBytes, seenBytes, readBytes, backToBack, listBytes, writeBytes, kindOf, headerOf, bodyOf, encode}
 use Rattle.rules.proofs.Lists.{and-l, and-r, and}
-use Rattle.rules.proofs.Frames.{WriteRules, write-rules}
+use Rattle.rules.proofs.Frames.{write-rules}
 use Rattle.safety.specs.Coded.{Bytes}
 
 -- the same as a record, so that a list is read off its statement

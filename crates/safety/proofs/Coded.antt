@@ -10,7 +10,7 @@ use lib.ListN.{length}
 use Rattle.rules.specs.Lists.{at, every}
 use Rattle.rules.specs.Transactions.{Operation}
 use Rattle.rules.specs.Frames.{Frame, obeys}
-use Rattle.rules.specs.Outcomes.{Outcome, frameCount, outAfter}
+use Rattle.rules.specs.Outcomes.{Outcome}
 use Rattle.rules.specs.Board as B
 use Rattle.rules.specs.Shard as S
 use Rattle.rules.specs.Session as C
@@ -19,7 +19,7 @@ use Rattle.rules.proofs.Shard as SP
 use Rattle.rules.proofs.Session as CP
 use Rattle.safety.specs.World.{Replied, Address, board, shard, client, Packet, rules, World, Choice, invoke, retry, deliver, remembered, start, afterBoard, afterShard, afterCall, afterReply, arrive, arriveSent, next, after, run}
 use Rattle.safety.specs.OutArea.{framesIn}
-use Rattle.safety.specs.Coded.{Stepped, Code, readOff, agents, Bytes, Meant, MeantReply, Promises, meaning, Demand3Of}
+use Rattle.safety.specs.Coded.{Stepped, Code, readOff, agents, Bytes, Meant, Promises, meaning, Demand3Of}
 use Rattle.safety.proofs.Lists.{changed-all, changed-map, all-at}
 use Rattle.safety.proofs.OutArea.{frames-in}
 use Rattle.safety.proofs.Bytes.{encode-bytes}

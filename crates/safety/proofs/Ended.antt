@@ -10,7 +10,7 @@ use native.Mathlib.Omega.{arith}
 use native.Mathlib.Decide.{ℕ-discrete}
 use lib.Dec.{T}
 use lib.ListN.{length, set}
-use Rattle.rules.specs.Lists.{at, snoc, changed}
+use Rattle.rules.specs.Lists.{at, changed}
 use Rattle.rules.specs.Transactions.{Operation, Write, Read}
 use Rattle.rules.specs.Frames.{Frame, submit, forward, shardAppend, execNotif, executed, response}
 use Rattle.rules.specs.Outcomes.{Outcome, taken, refuse}
@@ -30,8 +30,8 @@ use Rattle.safety.proofs.Flight.{InFlight, Flies, arrives, flies-map, m
 use Rattle.safety.proofs.Growth.{further-up}
 use Rattle.safety.proofs.Sends.{Ended, ends}
 use Rattle.safety.proofs.Marked.{remark-sound}
-use Rattle.safety.proofs.Local.{afterInvoke}
-use Rattle.safety.proofs.Happens.{Happened, nothing-happened, board-stepped, shard-stepped, client-invoked, client-retried, client-answered, withReply}
+use Rattle.safety.proofs.Deeds.{afterInvoke}
+use Rattle.safety.proofs.Happens.{Happened, nothing-happened, board-stepped, shard-stepped, client-invoked, client-retried, client-answered}
 use Rattle.safety.proofs.Known.{entriesOf, Known, board-obeys, board-moved, shard-obeys, shard-ran}
 use Rattle.safety.proofs.Lasts.{right}
 
@@ -123,7 +123,7 @@ module _ (n m : ℕ) (E : ℕ → List Entry) (H : Past) (i : ℕ) (lo : 1 ≤ i
       go how (ends m (writes (E n)) ind e s t) (λ u. one-entry m (writes (E n)) ind d e z s u t)
     where
       go : {g : Frame} {c : Entry} → Remark e ind g c → Ended m (writes (E n)) ind e → (T (isEXE (c .status)) → c ≡ e) → c ≡ e
-      go (by-notif j rs h) x one = absurd (rw (x .none-remain) at h)
+      go (by-notif j rs status h z) x one = absurd (rw (x .none-remain) at h)
       go (by-executed rs) x one = one (unfold finished in tt)
 
   moved-stays : (log : List Entry) (fs : List Frame) → Moved n m i (E i) f log fs → (ind : ℕ) (e : Entry) → at (E i) ind ≡ some e → T (isEXE (e .status)) → at log ind ≡ some e
@@ -158,7 +158,7 @@ module _ (n m : ℕ) (E : ℕ → List Entry) (H : Past) (i : ℕ) (lo : 1 ≤ i
   new-ends _ _ (marked q d c fs b how s) old to ind e a t = go (at-set-cases (E i) q c ind e a)
     where
       by-how : {g : Frame} {x : Entry} → Remark d q g x → RightTo n m (logsOf E) H (board i) g → EndedTo n E (board i) g → Behind n E i q
-      by-how (by-notif j rs h) (heard _ _ _ _ w z r u y) to = λ k l u. absurd (omega arith)
+      by-how (by-notif j rs status h o) (heard _ _ _ _ w z r u y) to = λ k l u. absurd (omega arith)
       by-how (by-executed rs) r to = to i refl
 
       go : (at (E i) ind ≡ some e) ⊎ ((ind ≡ q) × (e ≡ c)) → Behind n E i ind
@@ -187,7 +187,7 @@ at-or-behind i k h = go (ℕ-discrete i k)
 
 pub sends-ended : (n m : ℕ) (E : ℕ → List Entry) (i : ℕ) → 1 ≤ i → i ≤ n → Marks n m E → Ends n E → (g : Frame) → Sends n m i (E i) g → EndedTo n E (recipient n i g) g
 sends-ended n m E i lo hi marks old _ (sends-forward ind ack e l a) = tt
-sends-ended n m E i lo hi marks old _ (sends-append j ind e l a r) = tt
+sends-ended n m E i lo hi marks old _ (sends-append j ind sn e l a r k) = tt
 sends-ended n m E i lo hi marks old _ (sends-executed ind e l a t) = λ to q k x y. go to q k x y
   where
     go : (to : ℕ) → board (pred i) ≡ board to → (k : ℕ) → to < k → k ≤ n → Exe E k ind

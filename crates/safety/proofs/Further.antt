@@ -1,7 +1,7 @@
--- The further laws hold at every moment of every run.
+-- The further laws hold at every moment of every run, of the rules and of the code.
 -- Assumes nothing.
 use mathlib.Core.Path.{_≡_, ap, _∙_}
-use mathlib.Core.List.{List}
+use mathlib.Core.List.{List, map}
 use mathlib.Core.Option.{some}
 use Prim.Native.Nat.{ℕ, suc, _≤_, _<_}
 use native.Mathlib.Omega.{arith}
@@ -9,13 +9,15 @@ use lib.Dec.{T}
 use Rattle.rules.specs.Lists.{at}
 use Rattle.rules.specs.Board as B
 use Rattle.safety.specs.World.{World, rules, Choice, start, run}
-use Rattle.safety.specs.Further.{least, FurtherLaws}
+use Rattle.safety.specs.Coded.{Code, agents, Promises, meaning}
+use Rattle.safety.specs.Further.{least, Further, FurtherLaws}
 use Rattle.safety.proofs.Lists.{all-at}
 use Rattle.safety.proofs.Flight.{arrives}
 use Rattle.safety.proofs.Happens.{Happened, flown, always}
 use Rattle.safety.proofs.Known.{entriesOf, Known}
 use Rattle.safety.proofs.Lasts.{known-lasts}
 use Rattle.safety.proofs.Safety.{known-starts, known}
+use Rattle.safety.proofs.Coded.{meantChoice, run-follows}
 use Rattle.safety.proofs.Ended.{one-entry, ToldRight, EndsKnown, ends-lasts, ends-start}
 use Rattle.safety.proofs.Answered.{AllAnswered, not-outstanding, answered-lasts, answered-start}
 use Rattle.safety.proofs.Acks.{LowTo, AcksKnown, acks-lasts, acks-start}
@@ -50,3 +52,7 @@ further n m choices =
       acks = λ which p f a d. arrives (LowTo (least (w .sessions))) (w .sent) (p .to) f (low .flight) (flown (w .sent) which p f a d);
       answers = answers-expected n m w k;
     }
+
+-- and of the code that keeps its promises
+pub further-code : (code : Code) (p : Promises code) (n m : ℕ) (choices : List (Choice (agents code))) → Further n m (meaning code p (run (agents code) n m choices))
+further-code code p n m choices = rw (run-follows code p n m choices .means) (further n m (map (meantChoice code p) choices))

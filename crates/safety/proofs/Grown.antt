@@ -29,8 +29,9 @@ pub data Source (L : Logs) (H : Past) (i : ℕ) (w : Write) : Type 0 where
   later : (j : ℕ) → i ≡ suc j → 1 ≤ j → at (L j) (length (L i)) ≡ some w → Source L H i w
 
 pub source : (n m : ℕ) (E : ℕ → List Entry) (H : Past) (i : ℕ) (w : Write) (f : Frame) → RightTo n m (logsOf E) H (board i) f → From i (E i) w f → Source (logsOf E) H i w
-source n m E H _ w _ (asked _ _ r) (from-client a h num) = first h num r
-source n m E H _ w _ (logged i _ _ _ x z r) (from-board a h) = later i refl x (rw (length-map (E (suc i)) (λ (e : Entry). e .write)) r)
+source n m E H _ w _ (asked _ _ r) (from-client a h num) = first h (omega (arith, num)) r
+source n m E H _ w _ (logged i _ _ _ x z r) (from-board ind a h l) =
+    let d : ind ≡ length (writes (E (suc i))) = omega (arith, l, length-map (E (suc i)) (λ (e : Entry). e .write)) in later i refl x (rw d at r)
 
 module _ (L : Logs) (i : ℕ) (w : Write) where
   pub more : Logs

@@ -8,7 +8,7 @@ use Prim.Native.Nat.{ℕ, zero, suc, _≤_}
 use native.Mathlib.Omega.{arith}
 use lib.ListN.{length}
 use Rattle.rules.specs.Lists.{at}
-use Rattle.rules.specs.Transactions.{Write, Placed, Store, readsOf, storeAfterLog, readsInLog, placed, keep, onShard}
+use Rattle.rules.specs.Transactions.{Write, Placed, Store, readsOf, readsInLog, placed, keep, onShard}
 use Rattle.rules.specs.Frames.{Frame}
 use Rattle.rules.specs.Board.{Entry}
 use Rattle.rules.specs.Shard.{Shard}
@@ -18,7 +18,7 @@ use Rattle.safety.specs.World.{Address, ReplyTaken}
 use Rattle.safety.specs.Claim.{through, Touching, ReplyRight}
 use Rattle.safety.proofs.Lists.{last-or, Under}
 use Rattle.safety.proofs.Running.{seen, store-stable, count-stable}
-use Rattle.safety.proofs.Invariant.{Logs, Past, sees, RightTo, asked, logged, job, heard, ended, told, heardOf, Busy, Sound, idle, busy, ShardRight}
+use Rattle.safety.proofs.Invariant.{Logs, Past, sees, RightTo, asked, logged, job, heard, ended, told, heardOf, Sound, idle, busy, ShardRight}
 
 -- the reads of an entry
 reads-stable : (xs : List Placed) (G M : List Write) → Under G M → (ind : ℕ) (w : Write) → at G ind ≡ some w → gather xs (sees G ind w) ≡ gather xs (sees M ind w)

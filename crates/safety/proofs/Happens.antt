@@ -1,8 +1,7 @@
 -- What a choice does to a world: nothing, or one of five things. Out areas, bytes and refusals by 11 and 1 end here; what holds at the start and
 -- through these holds at every moment of every run.
 -- Assumes nothing.
-use mathlib.Core.Path.{_≡_, refl, sym, ap, _∙_}
-use mathlib.Core.Bool.{Bool}
+use mathlib.Core.Path.{_≡_, refl}
 use mathlib.Core.List.{List, [], _∷_, _++_, append-nil}
 use mathlib.Core.Option.{Option, none, some}
 use Prim.Native.Nat.{ℕ, _≤_}
@@ -24,10 +23,10 @@ use Rattle.rules.proofs.Frames.{decode-spells}
 use Rattle.rules.proofs.Steps.{ready}
 use Rattle.rules.proofs.Session.{SessionGood, invoke-good, retry-good}
 use Rattle.rules.proofs.Session as CP
-use Rattle.safety.specs.World.{Address, board, shard, client, Packet, posted, ReplyTaken, Replied, World, rules, Choice, invoke, retry, deliver, remembered, start, afterBoard, afterShard, afterCall, afterReply, arrive, arriveSent, next, after, run}
+use Rattle.safety.specs.World.{Address, board, shard, client, Packet, posted, Replied, World, rules, Choice, invoke, retry, deliver, remembered, start, afterBoard, afterShard, afterCall, afterReply, arrive, arriveSent, next, after, run}
 use Rattle.safety.proofs.Lists.{changed-own}
 use Rattle.safety.proofs.Flight.{InFlight}
-use Rattle.safety.proofs.Local.{afterInvoke, Invokes, not-invoked, invokes, invoke-law, Retries, not-retried, retries, retry-law, Hears, not-heard, hears, response-law}
+use Rattle.safety.proofs.Deeds.{afterInvoke, Invokes, not-invoked, invokes, invoke-law, Retries, not-retried, retries, retry-law, Hears, not-heard, hears, response-law}
 
 -- ---- Worlds after a call that was taken, and after a reply that was
 

@@ -1,7 +1,7 @@
 -- What is known of a whole register at every moment, each agent by itself and all together, and that a frame's step keeps what is known of
 -- its board or shard group by itself.
 -- Assumes nothing.
-use mathlib.Core.Path.{_≡_, refl, sym, ap, _∙_}
+use mathlib.Core.Path.{_≡_, ap, _∙_}
 use mathlib.Core.Bool.{Bool, true, false, not, _||_}
 use mathlib.Core.List.{List, []}
 use mathlib.Core.Option.{some}
@@ -12,7 +12,7 @@ use mir.Facts.{T-not}
 use Rattle.rules.specs.Lists.{at, every}
 use Rattle.rules.specs.Transactions.{Operation}
 use Rattle.rules.specs.Frames.{Frame, obeys, encode, decode}
-use Rattle.rules.specs.Outcomes.{Outcome, refuse, leastOut, unusable}
+use Rattle.rules.specs.Outcomes.{refuse, leastOut, unusable}
 use Rattle.rules.specs.Answers.{notUsable}
 use Rattle.rules.specs.Board as B
 use Rattle.rules.specs.Shard as S
@@ -26,7 +26,8 @@ use Rattle.rules.proofs.Shard as SP
 use Rattle.safety.specs.World.{World, rules}
 use Rattle.safety.specs.Machine.{All, Moved, Ran}
 use Rattle.safety.proofs.Invariant.{Good}
-use Rattle.safety.proofs.Local.{frame-law, shard-law}
+use Rattle.safety.proofs.Deeds.{frame-deed, shard-law}
+use Rattle.safety.proofs.Local.{deed-law}
 
 -- ---- What is known
 
@@ -92,7 +93,7 @@ module _ (n m i : ℕ) (b : B.Board) (f : Frame) (k : BoardKnown n m i b) (t : T
   board-obeys = board-good .frames .rules
 
   pub board-moved : Moved n m i (b .log) f (B.frameStep b f .state .log) (B.frameStep b f .frames)
-  board-moved = let e = k .on t in here (e .n-is) (e .m-is) (e .own-is) (frame-law b (rw (e .own-is) (e .low)) f .moved)
+  board-moved = let e = k .on t in here (e .n-is) (e .m-is) (e .own-is) (deed-law b f (B.frameStep b f) (rw (e .own-is) (e .low)) (frame-deed b f) .moved)
     where
       here : {a c d : ℕ} {log l : List B.Entry} {fs : List Frame} → a ≡ n → c ≡ m → d ≡ i → Moved a c d log f l fs → Moved n m i log f l fs
       here x y z h = rw (x, y, z) at h
@@ -100,7 +101,7 @@ module _ (n m i : ℕ) (b : B.Board) (f : Frame) (k : BoardKnown n m i b) (t : T
   pub board-known : BoardKnown n m i (B.frameStep b f .state)
   board-known =
       let e = k .on t in
-      let law = frame-law b (rw (e .own-is) (e .low)) f in
+      let law = deed-law b f (B.frameStep b f) (rw (e .own-is) (e .low)) (frame-deed b f) in
       record {
         on = λ _. record { n-is = law .n ∙ e .n-is; m-is = law .m ∙ e .m-is; own-is = law .own ∙ e .own-is; low = e .low; high = e .high };
         off = λ v. absurd (T-not (b .started) t (rw (law .started) at v));

@@ -1,6 +1,6 @@
 -- Whatever happens keeps what is known of a register.
 -- Assumes nothing.
-use mathlib.Core.Path.{_≡_, refl, sym, _∙_}
+use mathlib.Core.Path.{_≡_, sym, _∙_}
 use mathlib.Core.List.{List, [], _∷_}
 use mathlib.Core.Option.{some}
 use Prim.Native.Nat.{ℕ}
@@ -23,8 +23,8 @@ use Rattle.safety.proofs.Flight.{InFlight, Flies, arrives, posted-fly}
 use Rattle.safety.proofs.Invariant.{Logs, Past, RightTo, told, logsOf}
 use Rattle.safety.proofs.Boards as Boards
 use Rattle.safety.proofs.Shards as Shards
-use Rattle.safety.proofs.Local.{afterInvoke}
-use Rattle.safety.proofs.Happens.{Happened, nothing-happened, board-stepped, shard-stepped, client-invoked, client-retried, client-answered, withInvoked, withRetried, withReply, afterAnswer, Lasts}
+use Rattle.safety.proofs.Deeds.{afterInvoke}
+use Rattle.safety.proofs.Happens.{nothing-happened, board-stepped, shard-stepped, client-invoked, client-retried, client-answered, withInvoked, withRetried, withReply, afterAnswer, Lasts}
 use Rattle.safety.proofs.Known.{BoardKnown, ShardKnown, SessionKnown, entriesOf, Known, board-obeys, board-moved, board-known, shard-obeys, shard-ran, shard-known}
 use Rattle.safety.proofs.Sessions.{kept-operations, invoke-known, answer-known, past-core, submit-right}
 

@@ -6,11 +6,12 @@ use mathlib.Core.List.{List, [], _∷_}
 use mathlib.Core.Option.{some}
 use Prim.Native.Nat.{ℕ}
 use lib.Dec.{T, eqb, eqb→eq, T-not}
-use lib.ListN.{set}
-use Rattle.rules.specs.Lists.{if_then_else_, at, changed, isEmpty, has, strike}
-use Rattle.rules.specs.Transactions.{Write, Placed, shardOf, placed, keep, onShard, touched}
+use native.Mathlib.Omega.{arith}
+use lib.ListN.{length, set}
+use Rattle.rules.specs.Lists.{at, changed, has, strike}
+use Rattle.rules.specs.Transactions.{Write, Placed, Read, shardOf, placed, keep, onShard, touched}
 use Rattle.rules.specs.Frames.{Frame}
-use Rattle.rules.specs.Board.{Entry, PRE, EXE, isEXE, writes, addReads, heardFrom, finished}
+use Rattle.rules.specs.Board.{Status, Entry, isEXE, writes, addReads, finished}
 use Rattle.rules.proofs.Lists.{strike-sub}
 use Rattle.rules.proofs.Sets.{strike-has, touched-every}
 use Rattle.rules.proofs.Gather.{gather, gather-both}
@@ -22,10 +23,9 @@ use Rattle.safety.proofs.Lists.{changed-own, changed-map, Under}
 use Rattle.safety.proofs.Invariant.{Logs, Past, sees, RightTo, heard, ended, heardOf, Sound, idle, busy, logsOf}
 use Rattle.safety.proofs.Sends.{remains-touched}
 
-empty-nil : (l : List ℕ) → T (isEXE (if isEmpty l then EXE else PRE)) → l ≡ []
-unfolding if_then_else_
-empty-nil [] h = refl
-empty-nil (x ∷ l) h = absurd h
+nil-of : (l : List ℕ) → length l ≡ 0 → l ≡ []
+nil-of [] h = refl
+nil-of (x ∷ l) h = absurd (omega arith)
 
 -- the shards heard from, with one more
 one-more : (m j : ℕ) (remaining : List ℕ) → (λ (key : ℕ). eqb (shardOf m key) j || heardOf m remaining key) ≡ heardOf m (strike j remaining)
@@ -35,15 +35,15 @@ one-more m j remaining = fun-ext λ key. go (eqb (shardOf m key) j) (has (shardO
     go true b = refl
     go false b = refl
 
-heard-sound : (m : ℕ) (G : List Write) (ind : ℕ) (e : Entry) (j : ℕ) → at G ind ≡ some (e .write) → T (has j (e .remaining)) → Sound m G ind e
-    → Sound m G ind (heardFrom j (gather (onShard m j (e .write .operations)) (sees G ind (e .write))) e)
-unfolding heardFrom
-heard-sound m G ind e j here inside s =
+heard-sound : (m : ℕ) (G : List Write) (ind : ℕ) (e : Entry) (j : ℕ) (status : Status) (rs : List Read) → at G ind ≡ some (e .write) → T (has j (e .remaining))
+    → (T (isEXE status) → length (strike j (e .remaining)) ≡ 0) → rs ≡ gather (onShard m j (e .write .operations)) (sees G ind (e .write)) → Sound m G ind e
+    → Sound m G ind (record { write = e .write; status = status; reads = addReads rs (e .reads); remaining = strike j (e .remaining) })
+heard-sound m G ind e j status rs here inside last from s =
     busy (record {
       stands = here;
       sub = λ k h. remains-touched m G ind e s k (strike-sub k j (e .remaining) h);
       right = both;
-      done = empty-nil (strike j (e .remaining));
+      done = λ t. nil-of (strike j (e .remaining)) (last t);
     })
   where
     old : Sound m G ind e → e .reads ≡ gather (keep (heardOf m (e .remaining)) (placed 0 (e .write .operations))) (sees G ind (e .write))
@@ -56,10 +56,10 @@ heard-sound m G ind e j here inside s =
     apart : (key : ℕ) → T (eqb (shardOf m key) j) → T (heardOf m (e .remaining) key) → ⊥
     apart key a b = let d : shardOf m key ≡ j = eqb→eq (shardOf m key) j a in T-not (has (shardOf m key) (e .remaining)) b (rw d inside)
 
-    both : addReads (gather (onShard m j (e .write .operations)) (sees G ind (e .write))) (e .reads)
+    both : addReads rs (e .reads)
         ≡ gather (keep (heardOf m (strike j (e .remaining))) (placed 0 (e .write .operations))) (sees G ind (e .write))
     both =
-        ap (addReads (gather (onShard m j (e .write .operations)) (sees G ind (e .write)))) (old s)
+        (λ i. addReads (from i) (old s i))
         ∙ (gather-both (λ key. eqb (shardOf m key) j) (heardOf m (e .remaining)) apart (sees G ind (e .write)) 0 (e .write .operations)
         ∙ ap (λ (t : ℕ → Bool). gather (keep t (placed 0 (e .write .operations))) (sees G ind (e .write))) (one-more m j (e .remaining)))
 
@@ -75,11 +75,10 @@ finished-sound m G ind e here =
 
 pub remark-sound : (n m : ℕ) (L : Logs) (H : Past) (i ind : ℕ) (e d : Entry) (f : Frame) → Under (L n) (L i) → at (L i) ind ≡ some (e .write) → Sound m (L n) ind e
     → RightTo n m L H (board i) f → Remark e ind f d → Sound m (L n) ind d
-remark-sound n m L H _ ind e _ _ u a s (heard i _ _ _ x w r t y) (by-notif j rs h) =
+remark-sound n m L H _ ind e _ _ u a s (heard i _ _ _ x w r t y) (by-notif j rs status h last) =
     let v : at (L i) ind ≡ some x = u ind x r in
     let d : x ≡ e .write = cc in
-    let z : rs ≡ gather (onShard m j (e .write .operations)) (sees (L n) ind (e .write)) = rw d at y in
-    rw z (heard-sound m (L n) ind e j (rw d at r) h s)
+    heard-sound m (L n) ind e j status rs (rw d at r) h (λ z. let k = last z in omega arith) (rw d at y) s
 remark-sound n m L H _ ind e _ _ u a s (ended i _ _ x w b r y) (by-executed rs) =
     let v : at (L i) ind ≡ some x = u ind x r in
     let d : x ≡ e .write = cc in
@@ -87,8 +86,8 @@ remark-sound n m L H _ ind e _ _ u a s (ended i _ _ x w b r y) (by-executed rs) 
     rw z (finished-sound m (L n) ind e (rw d at r))
 
 remark-write : (e d : Entry) (ind : ℕ) (f : Frame) → Remark e ind f d → d .write ≡ e .write
-unfolding heardFrom finished
-remark-write e _ ind _ (by-notif j rs t) = refl
+unfolding finished
+remark-write e _ ind _ (by-notif j rs status t last) = refl
 remark-write e _ ind _ (by-executed rs) = refl
 
 -- so no log changes

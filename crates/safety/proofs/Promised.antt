@@ -1,6 +1,6 @@
 -- What is asked of code can be met: the rules themselves, their frames written into the out area, are code that keeps its promises.
 -- Assumes nothing.
-use mathlib.Core.Path.{_≡_, refl}
+use mathlib.Core.Path.{refl}
 use mathlib.Core.List.{List}
 use Prim.Native.Nat.{ℕ}
 use lib.ListN.{length}

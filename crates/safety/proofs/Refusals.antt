@@ -1,34 +1,32 @@
 -- No frame of a run is answered 1, 2, 6 or 8 where it was sent: it is a frame, for its receiver, of an entry that the receiver has, and fits it.
 -- Assumes nothing.
 use mathlib.Core.Path.{_≡_, refl, sym, ap, _∙_}
-use mathlib.Core.Logic.{_≢_}
 use mathlib.Core.Bool.{Bool, true, false, not, _&&_}
 use mathlib.Core.List.{List, [], _∷_, _++_, map, append-assoc}
 use mathlib.Core.Option.{Option, none, some}
-use Prim.Native.Nat.{ℕ, zero, suc, _+_, _%_, _≤_, _<_}
+use Prim.Native.Nat.{ℕ, zero, suc, _+_, _≤_, _<_}
 use native.Mathlib.Omega.{arith}
 use lib.Dec.{T, leb, ltb, eqb, eqb→eq, eqb-refl, nleb→lt, nltb→le, ltb→lt}
 use lib.ListN.{length, length-map}
 use native.Mathlib.Nat.{mod-lt}
 use mir.Facts.{T-not, yes-eqb, yes-leb, yes-ltb, eqb-no}
-use Rattle.rules.specs.Lists.{if_then_else_, at, snoc, every, below, same, has}
+use Rattle.rules.specs.Lists.{if_then_else_, at, snoc, every, below}
 use Rattle.rules.specs.Answers.{done, notUsable, belowFloor, tooEarly, logFull, tooLate}
 use Rattle.rules.specs.Transactions.{Operation, get, put, Write, Placed, Read, keyOf, shardOf, touched, touches, placed, keep, onShard, getPlace, getPlaces, sameOperation, sameOperations, sameWrite}
-use Rattle.rules.specs.Frames.{Frame, submit, forward, shardAppend, execNotif, executed, response, decode}
+use Rattle.rules.specs.Frames.{Frame, decode}
 use Rattle.rules.specs.Outcomes.{Outcome, taken, refuse}
 use Rattle.rules.specs.Board as B
 use Rattle.rules.specs.Shard as S
 use Rattle.rules.specs.Session as C
 use Rattle.rules.specs.Kept.{ofClient, Counted}
-use Rattle.rules.proofs.Lists.{by, yes-of, and, and-l, and-r, if-yes, if-no, nothing, same-refl, at-lt}
+use Rattle.rules.proofs.Lists.{by, yes-of, and, and-l, and-r, if-yes, nothing, same-refl}
 use Rattle.rules.proofs.Frames.{decode-encode}
 use Rattle.rules.proofs.Steps.{ready}
 use Rattle.rules.proofs.Sets.{insert-cases}
 use Rattle.rules.proofs.Gather.{gatherOne, gather}
 use Rattle.rules.proofs.Numbers.{next-counts, found, find-stands}
-use Rattle.rules.proofs.Kept.{at-writes}
 use Rattle.safety.specs.World.{Address, board, shard, client, Packet, World, rules}
-use Rattle.safety.specs.Claim.{invocations, through, Prefix}
+use Rattle.safety.specs.Claim.{invocations, through}
 use Rattle.safety.specs.Further.{answerTo, Expected}
 use Rattle.safety.proofs.Lists.{Under, under-prefix, under-snoc, at-some, all-at}
 use Rattle.safety.proofs.Numbered.{client-yes, invoked-at, firsts-counted}

@@ -11,7 +11,7 @@ use native.Mathlib.Omega.{arith}
 use lib.Dec.{T, eqb}
 use lib.ListN.{length}
 use mir.Facts.{T-not, not-T, yes-eqb, no-eqb}
-use Rattle.rules.specs.Lists.{if_then_else_, at, changed, has}
+use Rattle.rules.specs.Lists.{if_then_else_, at, changed}
 use Rattle.rules.specs.Transactions.{Operation, get, put, Write, Placed, Read, Cell, Store, keyOf, shardOf, touched, touches, placed, keep, effect, storeAfter, valueOf, note, readsOf, runEntry, storeAfterLog}
 use Rattle.rules.specs.Board.{oneMore, touching}
 use Rattle.rules.proofs.Lists.{by, if-yes, if-no}

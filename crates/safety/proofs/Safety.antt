@@ -1,14 +1,14 @@
 -- DEMAND 3: every moment of every run of the rules' own steps, over bytes, is safe. What is known holds at the start and lasts, and what is known is
 -- safe: what holds of the tail's log holds of the first, which begins with it.
 -- Assumes nothing.
-use mathlib.Core.Path.{_≡_, refl, sym, ap, _∙_, fun-ext}
-use mathlib.Core.Bool.{Bool, true, false, not, _&&_}
+use mathlib.Core.Path.{_≡_, refl, ap, _∙_, fun-ext}
+use mathlib.Core.Bool.{Bool, true, false, _&&_}
 use mathlib.Core.List.{List, []}
-use mathlib.Core.Option.{Option, none}
+use mathlib.Core.Option.{Option}
 use Prim.Native.Nat.{ℕ, zero, suc}
 use native.Mathlib.Omega.{arith}
-use lib.Dec.{T, leb, eqb, leb→le}
-use Rattle.rules.specs.Lists.{if_then_else_, within}
+use lib.Dec.{leb, leb→le}
+use Rattle.rules.specs.Lists.{within}
 use Rattle.rules.specs.Transactions.{Cell, Store, storeAfterLog}
 use Rattle.rules.specs.Outcomes.{Outcome, taken, refuse}
 use Rattle.rules.specs.Board as B
@@ -107,7 +107,7 @@ known-safe n m w k =
     let u = tail-under n m w k in
     record {
       prefixes = λ i h l. under-prefix (logOf w (suc i)) (logOf w i) (c .chain i h);
-      firsts = λ client. under-prefix (ofClient client (logOf w 1)) (invocations client 0 (w .invoked client)) (c .firsts client);
+      numbered = λ client. under-prefix (ofClient client (logOf w 1)) (invocations client 0 (w .invoked client)) (c .firsts client);
       ran = λ j ind e. touching-grows m j (logOf w n) (logOf w 1) u ind (c .groups j .ran ind e);
       keys = keys-right n m w k;
       replies = λ which r e. reply-grows (logOf w n) (logOf w 1) u r (all-at (ReplyRight (logOf w n)) (w .replies) which r e (c .answers));

@@ -8,15 +8,15 @@ use native.Mathlib.Omega.{arith}
 use lib.Dec.{T}
 use Rattle.rules.specs.Lists.{at, has}
 use Rattle.rules.specs.Transactions.{Write, Placed, touches, placed, keep}
-use Rattle.rules.specs.Frames.{Frame, executed, response}
+use Rattle.rules.specs.Frames.{Frame}
 use Rattle.rules.specs.Board.{Entry, isEXE, writes, touching}
 use Rattle.rules.proofs.Counts.{touching-one}
 use Rattle.rules.proofs.Gather.{gather}
 use Rattle.rules.proofs.Obeys.{all-left}
 use Rattle.rules.proofs.Kept.{at-writes}
-use Rattle.safety.specs.World.{board, client, recipient}
+use Rattle.safety.specs.World.{recipient}
 use Rattle.safety.specs.Machine.{Sends, sends-forward, sends-append, sends-executed, sends-response}
-use Rattle.safety.proofs.Invariant.{Logs, Past, sees, RightTo, logged, job, ended, told, heardOf, Busy, Sound, idle, busy}
+use Rattle.safety.proofs.Invariant.{Logs, Past, sees, RightTo, logged, job, ended, told, heardOf, Sound, idle, busy}
 
 -- where Executed goes
 pub before : (n i : ℕ) → 2 ≤ i → i ≤ n → (1 ≤ pred i) × (pred i < n)
@@ -47,13 +47,14 @@ ends m G ind e (busy y) t =
 pub sends-right : (n m : ℕ) (L : Logs) (H : Past) (i : ℕ) (log : List Entry) → 1 ≤ i → i ≤ n → L i ≡ writes log
     → ((ind : ℕ) (e : Entry) → at log ind ≡ some e → Sound m (L n) ind e) → (f : Frame) → Sends n m i log f → RightTo n m L H (recipient n i f) f
 sends-right n m L H i log lo hi u s _ (sends-forward ind ack e l h) = logged i ind ack (e .write) lo l (rw u (at-writes log ind e h))
-sends-right n m L H i log lo hi u s _ (sends-append j ind e l h r) =
+sends-right n m L H i log lo hi u s _ (sends-append j ind sn e l h r k) =
     let d : i ≡ n = omega arith in
     let v : L n ≡ writes log = rw d at u in
     let a : at (L n) ind ≡ some (e .write) = rw v (at-writes log ind e h) in
     let t = remains-touched m (L n) ind e (s ind e h) j r in
-    let c : touching m j (writes log) (suc ind) ≡ suc (touching m j (L n) ind) = rw v (touching-one m j (writes log) ind (e .write) (at-writes log ind e h) t) in
-    job j ind _ _ (e .write) a t c refl
+    let c = touching-one m j (writes log) ind (e .write) (at-writes log ind e h) t in
+    let d : sn ≡ suc (touching m j (writes log) ind) = omega (arith, k) in
+    job j ind sn _ (e .write) a t (rw v d) refl
 sends-right n m L H i log lo hi u s _ (sends-executed ind e l h r) =
     let y = ends m (L n) ind e (s ind e h) r in
     let b = before n i l hi in

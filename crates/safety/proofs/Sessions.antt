@@ -1,13 +1,13 @@
 -- A session's numbers and what it keeps as outstanding are its client's invocations, through every call and Response; so the Submits it sends are
 -- right.
 -- Assumes nothing.
-use mathlib.Core.Path.{_≡_, refl}
+use mathlib.Core.Path.{_≡_}
 use mathlib.Core.List.{List, [], _∷_}
-use mathlib.Core.Option.{Option, none, some}
+use mathlib.Core.Option.{Option, some}
 use Prim.Native.Nat.{ℕ}
 use native.Mathlib.Omega.{arith}
 use lib.Dec.{eqb, eqb→eq}
-use lib.ListN.{length, length-append}
+use lib.ListN.{length-append}
 use Rattle.rules.specs.Lists.{at, snoc, changed}
 use Rattle.rules.specs.Transactions.{Operation}
 use Rattle.rules.specs.Session as C
@@ -21,7 +21,7 @@ use Rattle.safety.proofs.Numbered.{invoked-grows}
 use Rattle.safety.proofs.Flight.{flies-map}
 use Rattle.safety.proofs.Invariant.{Logs, Past, RightTo, asked, Core}
 use Rattle.safety.proofs.Growth.{right-grows}
-use Rattle.safety.proofs.Local.{afterInvoke}
+use Rattle.safety.proofs.Deeds.{afterInvoke}
 use Rattle.safety.proofs.Happens.{afterAnswer}
 use Rattle.safety.proofs.Known.{SessionKnown}
 

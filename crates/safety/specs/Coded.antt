@@ -6,7 +6,6 @@ use Prim.Native.Nat.{ℕ}
 use lib.Dec.{T}
 use lib.ListN.{length}
 use Rattle.rules.specs.Lists.{_≤?_, every}
-use Rattle.rules.specs.Transactions.{Read}
 use Rattle.rules.specs.Outcomes.{Outcome, frameCount, outAfter}
 use Rattle.rules.specs.Board as B
 use Rattle.rules.specs.Shard as S
@@ -24,28 +23,16 @@ pub record Stepped (State : Type 0) : Type 0 where
   pub frames : ℕ
   pub out : List ℕ
 
--- The code's own states, starts and steps, as its promises give them (`startOf`, `stepOf`, `outOf`, ..): a step has the state, a frame's bytes
--- and the out area as it lies. A Request is what invoke is handed (numbers that fit their types), asks the operation list that it is.
-pub record Code : Type 1 where
-  pub Board : Type 0
-  pub Shard : Type 0
-  pub Session : Type 0
-  pub startBoard : ℕ → ℕ → ℕ → Board
-  pub startShard : ℕ → ℕ → Shard
-  pub startSession : ℕ → Session
-  pub stepBoard : Board → List ℕ → List ℕ → Stepped Board
-  pub stepShard : Shard → List ℕ → List ℕ → Stepped Shard
-  pub Request : Type 0
-  pub asks : Request → List C.Asked
-  pub invoke : Session → Request → List ℕ → Stepped Session
-  pub retry : Session → ℕ → List ℕ → Stepped Session
-  pub respond : Session → List ℕ → Replied Session
+-- The code's own states, starts and steps, as its promises give them (`startOf`, `stepOf`, `outOf`, ..). A Request is what invoke is handed, its
+-- numbers within their types, and asks is the operation list that it is.
+abbrev pub Code : Type 1
+Code = Agents Stepped
 
 -- the frames that a step sent are read off its out area, as many as it counted
 unfoldable pub readOff : {State : Type 0} → Stepped State → Outcome State
 readOff g = record { answer = g .answer; state = g .state; frames = framesIn (g .frames) (g .out) }
 
-abbrev pub agents : Code → Agents
+abbrev pub agents : Code → Agents Outcome
 agents code =
     record {
       Board = code .Board;

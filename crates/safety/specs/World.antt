@@ -22,10 +22,10 @@ pub record Replied (State : Type 0) : Type 0 where
   pub number : ℕ
   pub reads : List Read
 
--- Boards, shard groups and sessions: their states, starts and steps. Demand 3 speaks of those of the rules, below; those of the code
--- are others (Coded), and their runs are runs by the same words.
+-- Boards, shard groups and sessions: their states, starts and steps. Demand 3 speaks of those of the rules, below, whose steps give an Outcome;
+-- those of the code are others (Coded), and their runs are runs by the same words.
 -- A step is given a frame's bytes and is lent an out area, here the bytes that lie in it; a Response step has none.
-pub record Agents : Type 1 where
+pub record Agents (Gives : Type 0 → Type 0) : Type 1 where
   pub Board : Type 0
   pub Shard : Type 0
   pub Session : Type 0
@@ -33,18 +33,18 @@ pub record Agents : Type 1 where
   pub startBoard : ℕ → ℕ → ℕ → Board
   pub startShard : ℕ → ℕ → Shard
   pub startSession : ℕ → Session
-  pub stepBoard : Board → List ℕ → List ℕ → Outcome Board
-  pub stepShard : Shard → List ℕ → List ℕ → Outcome Shard
+  pub stepBoard : Board → List ℕ → List ℕ → Gives Board
+  pub stepShard : Shard → List ℕ → List ℕ → Gives Shard
   -- what is handed to invoke, and the operation list that it is
   pub Request : Type 0
   pub asks : Request → List C.Asked
-  pub invoke : Session → Request → List ℕ → Outcome Session
+  pub invoke : Session → Request → List ℕ → Gives Session
   -- a number sent again
-  pub retry : Session → ℕ → List ℕ → Outcome Session
+  pub retry : Session → ℕ → List ℕ → Gives Session
   pub respond : Session → List ℕ → Replied Session
 
 -- demand 2's own: word for word the starts and steps of the rules
-abbrev pub rules : Agents
+abbrev pub rules : Agents Outcome
 rules =
     record {
       Board = B.Board;
@@ -69,7 +69,7 @@ pub data Address : Type 0 where
   shard : ℕ → Address
   client : ℕ → Address
 
--- the column "from, to" of the table of frames, for a frame that number i of its kind sends
+-- the column "from, to" of the table of frames; i is the sender's own number
 abbrev pub recipient : ℕ → ℕ → Frame → Address
 recipient n i (submit w ack) = board 1
 recipient n i (forward ind w ack) = board (suc i)
@@ -94,9 +94,9 @@ pub record ReplyTaken : Type 0 where
   pub number : ℕ
   pub reads : List Read
 
--- sent: every frame ever sent, the first first; none is ever taken out.
--- invoked, by client, and replies, both the first first: what clients asked and were told. They only remember: no step reads them.
-pub record World (a : Agents) : Type 0 where
+-- sent: every frame ever sent, in order; none is ever taken out.
+-- invoked, by client, and replies: what clients asked and were told, in order. They only remember: no step reads them.
+pub record World (a : Agents Outcome) : Type 0 where
   pub boards : ℕ → a .Board
   pub shards : ℕ → a .Shard
   pub sessions : ℕ → a .Session
@@ -104,9 +104,9 @@ pub record World (a : Agents) : Type 0 where
   pub invoked : ℕ → List (List Operation)
   pub replies : List ReplyTaken
 
--- What happens next: a client invokes a list, be it good or bad; a client retries a number; or any one of the frames sent so far arrives
--- where it was sent, be it late, again or never, which counts them from 0. Each is lent an out area, of any length.
-pub data Choice (a : Agents) : Type 0 where
+-- What happens next: client c invokes a list, be it good or bad; it retries a number; or one of the frames sent so far, the which-th, counted
+-- from 0, arrives where it was sent. Any may arrive late, again or never. Each step is lent an out area of any length; under 68 bytes it is refused.
+pub data Choice (a : Agents Outcome) : Type 0 where
   invoke : (c : ℕ) (request : a .Request) (out : List ℕ) → Choice a
   retry : (c number : ℕ) (out : List ℕ) → Choice a
   deliver : (which : ℕ) (out : List ℕ) → Choice a
@@ -116,9 +116,8 @@ unfoldable pub remembered : List (List Operation) → Option (List Operation) �
 remembered past none = past
 remembered past (some os) = snoc past os
 
-module _ (a : Agents) where
-  -- Boards 1..n, shard groups 1..m and clients 0..15 are started. A start with any other number is refused, and where n is not 2..8 or m
-  -- not 1..8 all starts of boards are: what was not started answers 11 to everything.
+module _ (a : Agents Outcome) where
+  -- every board, shard group and session that is started from n and m; one whose start was refused answers 11 to everything
   unfoldable pub start : ℕ → ℕ → World a
   start n m =
       record {
@@ -194,10 +193,11 @@ module _ (a : Agents) where
   next n w (retry c number out) = afterCall n w c (w .invoked c) (a .retry (w .sessions c) number out)
   next n w (deliver which out) = arriveSent n w (at (w .sent) which) out
 
+  -- some choices, in order
   unfoldable pub after : ℕ → World a → List (Choice a) → World a
   after n w [] = w
   after n w (x ∷ xs) = after n (next n w x) xs
 
-  -- a run: some choices, the first first, from the start on
+  -- a run: some choices from the start on
   unfoldable pub run : ℕ → ℕ → List (Choice a) → World a
   run n m choices = after n (start n m) choices
