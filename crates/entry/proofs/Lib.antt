@@ -1,2 +1,6 @@
 pub mod Masks
 pub mod Slots
+pub mod Sets
+pub mod ByPlace
+pub mod Meaning
+pub mod Entries

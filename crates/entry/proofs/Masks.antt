@@ -1,15 +1,15 @@
 -- The bits of a byte: what adding and taking away a shard's bit does to every other bit, by halving.
 -- Assumes nothing.
 use mathlib.Core.Path.{_≡_, refl, sym, ap, _∙_}
-use mathlib.Core.Bool.{Bool, true, false, _&&_}
+use mathlib.Core.Bool.{Bool, true, false, not, _&&_, _||_}
 use Prim.Native.Nat.{ℕ, zero, suc, _+_, _-_, _/_, _%_, _^_, _≤_, _<_}
 use native.Mathlib.Nat.{pow-suc, div-one}
 use native.Mathlib.Omega.{arith}
 use lib.Dec.{leb, eqb}
 use lib.Pow.{shr-shr}
 use borrow.Author.Tests.{leb-true, eqb-true, eqb-false, le-leb}
-use Rattle.rules.specs.Lists.{within}
-use Rattle.entry.specs.Model.{bitOf, inMask}
+use Rattle.rules.specs.Lists.{if_then_else_, within}
+use Rattle.entry.specs.Model.{bitOf, inMask, insertOf, strikeOf}
 
 -- the digit k of x, counted from the lowest
 abbrev digit : ℕ → ℕ → ℕ
@@ -111,3 +111,87 @@ module _ (mask shard : ℕ) where
 
   pub bit-counts : inMask mask shard ≡ true → bitOf shard ≤ mask
   bit-counts h = digit-counts (shard - 1) mask (in-one h)
+
+-- ---- What inserting and striking a shard does to the test of every shard
+
+-- the digit of another shard
+other-digit : (x j : ℕ) → 1 ≤ x → 1 ≤ j → (x ≡ j → ⊥) → x - 1 ≡ j - 1 → ⊥
+other-digit x j lo lo′ d e = d (omega arith)
+
+digit-left : (j k x : ℕ) → (j ≡ k → ⊥) → digit k x ≡ 1 → digit j (x - 2 ^ k) ≡ digit j x
+digit-left j k x d e =
+    let h : x - 2 ^ k + 2 ^ k ≡ x = let l = digit-counts k x e in omega arith in
+    sym (digit-stays j k (x - 2 ^ k) d (digit-clear k x e)) ∙ ap (digit j) h
+
+-- a test of x that only its digit decides
+by-digit : (mask mask′ x : ℕ) → digit (x - 1) mask ≡ digit (x - 1) mask′ → inMask mask x ≡ inMask mask′ x
+by-digit mask mask′ x e = in-at mask x ∙ (ap (λ d. within 1 8 x && eqb d 1) e ∙ sym (in-at mask′ x))
+
+is-one : (mask x : ℕ) → 1 ≤ x → x ≤ 8 → digit (x - 1) mask ≡ 1 → inMask mask x ≡ true
+is-one mask x lo hi e = in-is mask x lo hi ∙ ap (λ d. eqb d 1) e
+
+is-zero : (mask x : ℕ) → 1 ≤ x → x ≤ 8 → digit (x - 1) mask ≡ 0 → inMask mask x ≡ false
+is-zero mask x lo hi e = in-is mask x lo hi ∙ ap (λ d. eqb d 1) e
+
+-- there is no shard 0
+no-shard : (mask : ℕ) → inMask mask 0 ≡ false
+unfolding inMask
+no-shard mask = refl
+
+module _ (mask j : ℕ) where
+  strike-at : (x : ℕ) → (t : Bool) → t ≡ eqb x j → inMask mask j ≡ true → inMask (mask - bitOf j) x ≡ (not t && inMask mask x)
+  strike-at x true e h =
+      let d : x ≡ j = eqb-true x j (sym e) in
+      let r = in-range mask j h in
+      rw d (is-zero (mask - bitOf j) j (r .0) (r .1) (digit-clear (j - 1) mask (in-one mask j h)))
+  strike-at zero false e h = no-shard (mask - bitOf j) ∙ sym (no-shard mask)
+  strike-at (suc x) false e h =
+      let r = in-range mask j h in
+      by-digit (mask - bitOf j) mask (suc x)
+      (digit-left (suc x - 1) (j - 1) mask (other-digit (suc x) j (omega arith) (r .0) (eqb-false (suc x) j (sym e))) (in-one mask j h))
+
+  pub in-strike : (x : ℕ) → inMask (strikeOf mask j) x ≡ (not (eqb x j) && inMask mask x)
+  unfolding strikeOf
+  in-strike x = go (inMask mask j) refl
+    where
+      out : (t : Bool) → t ≡ eqb x j → inMask mask j ≡ false → inMask mask x ≡ (not t && inMask mask x)
+      out true e h = let d : x ≡ j = eqb-true x j (sym e) in rw d h
+      out false e h = refl
+
+      go : (b : Bool) → inMask mask j ≡ b → inMask (if b then mask - bitOf j else mask) x ≡ (not (eqb x j) && inMask mask x)
+      go true h = unfold if_then_else_ in (strike-at x (eqb x j) refl h)
+      go false h = unfold if_then_else_ in (out (eqb x j) refl h)
+
+  module _ (lo : 1 ≤ j) (hi : j ≤ 8) where
+    insert-at : (x : ℕ) → (t : Bool) → t ≡ eqb x j → inMask mask j ≡ false → inMask (mask + bitOf j) x ≡ (t || inMask mask x)
+    insert-at x true e h =
+        let d : x ≡ j = eqb-true x j (sym e) in rw d (is-one (mask + bitOf j) j lo hi (digit-set (j - 1) mask (out-zero mask j lo hi h)))
+    insert-at zero false e h = no-shard (mask + bitOf j) ∙ sym (no-shard mask)
+    insert-at (suc x) false e h =
+        by-digit (mask + bitOf j) mask (suc x)
+        (digit-stays (suc x - 1) (j - 1) mask (other-digit (suc x) j (omega arith) lo (eqb-false (suc x) j (sym e))) (out-zero mask j lo hi h))
+
+    pub in-insert : (x : ℕ) → inMask (insertOf mask j) x ≡ (eqb x j || inMask mask x)
+    unfolding insertOf
+    in-insert x = rw (inside mask j lo hi) (go (inMask mask j) refl)
+      where
+        held : (t : Bool) → t ≡ eqb x j → inMask mask j ≡ true → inMask mask x ≡ (t || inMask mask x)
+        held true e h = let d : x ≡ j = eqb-true x j (sym e) in rw d h
+        held false e h = refl
+
+        go : (b : Bool) → inMask mask j ≡ b → inMask (if not b then mask + bitOf j else mask) x ≡ (eqb x j || inMask mask x)
+        go true h = unfold if_then_else_ in (held (eqb x j) refl h)
+        go false h = unfold if_then_else_ in (insert-at x (eqb x j) refl h)
+
+-- a byte without a shard is 0
+digits-zero : (n x : ℕ) → x < 2 ^ n → ((k : ℕ) → k < n → digit k x ≡ 0) → x ≡ 0
+digits-zero zero x h f = omega arith
+digits-zero (suc n) x h f =
+    let e = digits-zero n (x / 2) (omega (arith, pow-suc 2 n)) (λ k l. f (suc k) (omega arith)) in
+    let z = f 0 (omega arith) in
+    omega arith
+
+pub empty-mask : (mask : ℕ) → mask < 256 → ((x : ℕ) → inMask mask x ≡ false) → mask ≡ 0
+empty-mask mask h f =
+    digits-zero 8 mask h
+    (λ k l. let e : suc k - 1 ≡ k = omega arith in rw (← e) (out-zero mask (suc k) (omega arith) (omega arith) (f (suc k))))

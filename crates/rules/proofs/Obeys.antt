@@ -57,7 +57,7 @@ unfolding if_then_else_
 none-or-some true = refl
 none-or-some false = refl
 
-new-entry : (m : ℕ) (w : Write) (ack : ℕ) → WriteRules w ack → EntryKept m (newEntry m w)
+pub new-entry : (m : ℕ) (w : Write) (ack : ℕ) → WriteRules w ack → EntryKept m (newEntry m w)
 unfolding newEntry
 new-entry m w ack r =
     record {
@@ -74,7 +74,7 @@ reads-values : (rs : List Read) → T (okReads rs) → T (every (λ r. okSeen (r
 unfolding okReads
 reads-values rs t = and-r (leb (length rs) 4 && rising 0 (places rs)) (every (λ r. okSeen (r .value)) rs) t
 
-finished-entry : (m : ℕ) (rs : List Read) (e : Entry) → EntryKept m e → T (okReads rs) → T (fits rs (placed 0 (e .write .operations))) → EntryKept m (finished rs e)
+pub finished-entry : (m : ℕ) (rs : List Read) (e : Entry) → EntryKept m e → T (okReads rs) → T (fits rs (placed 0 (e .write .operations))) → EntryKept m (finished rs e)
 unfolding finished
 finished-entry m rs e k t f =
     record {
@@ -87,7 +87,7 @@ finished-entry m rs e k t f =
       remaining = tt;
     }
 
-heard-entry : (m j : ℕ) (rs : List Read) (e : Entry) → EntryKept m e → T (has j (e .remaining)) → T (okReads rs) → T (fits rs (onShard m j (e .write .operations)))
+pub heard-entry : (m j : ℕ) (rs : List Read) (e : Entry) → EntryKept m e → T (has j (e .remaining)) → T (okReads rs) → T (fits rs (onShard m j (e .write .operations)))
     → EntryKept m (heardFrom j rs e)
 unfolding heardFrom
 heard-entry m j rs e k h t f =

@@ -19,7 +19,7 @@ use Rattle.rules.proofs.Frames.{WriteRules, write-rules, decode-spells}
 
 -- ---- The same client, number and operations
 
-same-operation : (o p : Operation) → T (sameOperation o p) → o ≡ p
+pub same-operation : (o p : Operation) → T (sameOperation o p) → o ≡ p
 same-operation (get k) (get l) t = ap get (eqb→eq k l t)
 same-operation (get k) (put l v) t = absurd t
 same-operation (put k u) (get l) t = absurd t
