@@ -3,7 +3,7 @@
 use mathlib.Core.Bool.{Bool, _&&_}
 use mathlib.Core.List.{List, [], _∷_, _++_, map}
 use mathlib.Core.Option.{Option, none, some}
-use Prim.Native.Nat.{ℕ, suc, _%_, _/_, _≤_}
+use Prim.Native.Nat.{ℕ, zero, suc, _%_, _/_, _≤_}
 use native.Mathlib.Omega.{arith}
 use lib.Dec.{T, leb→le, le→leb}
 use lib.ListN.{length}
@@ -14,14 +14,14 @@ use Rattle.rules.proofs.Lists.{and-l, and-r, and}
 use Rattle.rules.proofs.Frames.{write-rules}
 use Rattle.safety.specs.Coded.{Bytes}
 
--- the same as a record, so that a list is read off its statement
+-- a record, so that a list is read off its statement
 record Small (s : List ℕ) : Type 0 where
-  all : Bytes s
+  all : T (every (λ x. x ≤? 255) s)
 
 both : {s t : List ℕ} → Small s → Small t → Small (s ++ t)
 both {s} {t} a b = record { all = go s (a .all) }
   where
-    go : (s : List ℕ) → Bytes s → Bytes (s ++ t)
+    go : (s : List ℕ) → T (every (λ x. x ≤? 255) s) → T (every (λ x. x ≤? 255) (s ++ t))
     go [] a = b .all
     go (x ∷ s) a = and (x ≤? 255) _ (and-l (x ≤? 255) _ a) (go s (and-r (x ≤? 255) _ a))
 
@@ -113,7 +113,12 @@ body-bytes (response c k rs) t =
     let own = leb→le c 15 (and-l (okClient c) (okNumber k) (and-l (okClient c && okNumber k) (okReads rs) t)) in
     one c (omega arith) (both (two-bytes k) (reads-bytes rs (and-r (okClient c && okNumber k) (okReads rs) t)))
 
+small-bytes : (s : List ℕ) → T (every (λ x. x ≤? 255) s) → Bytes s
+small-bytes [] t i = omega arith
+small-bytes (x ∷ s) t zero = let h = leb→le x 255 (and-l (x ≤? 255) _ t) in omega arith
+small-bytes (x ∷ s) t (suc i) = small-bytes s (and-r (x ≤? 255) _ t) i
+
 pub encode-bytes : (f : Frame) → T (obeys f) → Bytes (encode f)
 unfolding encode
 encode-bytes f t =
-    both (two-bytes (length (headerOf f ++ bodyOf f))) (both (two-bytes (kindOf f)) (body-bytes f t)) .all
+    small-bytes (encode f) (both (two-bytes (length (headerOf f ++ bodyOf f))) (both (two-bytes (kindOf f)) (body-bytes f t)) .all)

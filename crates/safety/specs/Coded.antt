@@ -2,10 +2,8 @@
 -- Assumes nothing.
 use mathlib.Core.Path.{_≡_}
 use mathlib.Core.List.{List}
-use Prim.Native.Nat.{ℕ}
-use lib.Dec.{T}
-use lib.ListN.{length}
-use Rattle.rules.specs.Lists.{_≤?_, every}
+use Prim.Native.Nat.{ℕ, _<_}
+use lib.ListN.{length, getD}
 use Rattle.rules.specs.Outcomes.{Outcome, frameCount, outAfter}
 use Rattle.rules.specs.Board as B
 use Rattle.rules.specs.Shard as S
@@ -54,7 +52,7 @@ agents code =
 
 -- each number is a byte
 abbrev pub Bytes : List ℕ → Type 0
-Bytes s = T (every (λ x. x ≤? 255) s)
+Bytes s = (i : ℕ) → getD s i 0 < 256
 
 -- a step of the code is the rules' step o: it keeps what is held, and its answer, state, count and out area are the rules'
 pub record Meant {State Rule : Type 0} (Held : State → Type 0) (view : State → Rule) (out : List ℕ) (g : Stepped State) (o : Outcome Rule) : Type 0 where
