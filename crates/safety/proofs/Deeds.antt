@@ -1,5 +1,5 @@
--- What a board or a shard group does with a frame, and what a session does with a call or a frame. Here alone are the tests of the rules split;
--- nothing here knows a world.
+-- What a board or a shard group does with a frame, and what a session does with a call or a frame. Nothing here knows a world. Demand 3 needs the
+-- tests of the rules split here alone; which answers are given is Refusals' matter.
 -- Assumes nothing.
 use mathlib.Core.Path.{_≡_, refl}
 use mathlib.Core.List.{List, [], _∷_}
