@@ -4,13 +4,13 @@
 use mathlib.Core.Path.{_≡_, refl, _∙_}
 use mathlib.Core.Bool.{Bool, true, false, not, _&&_, _||_}
 use mathlib.Core.List.{List, [], _∷_}
-use Prim.Native.Nat.{ℕ, zero, suc, _+_, _≤_}
+use Prim.Native.Nat.{ℕ, _≤_}
 use native.Mathlib.Omega.{arith}
 use lib.Dec.{T, nltb→le, ltb→lt}
-use lib.ListN.{length, drop, length-set}
-use Rattle.rules.specs.Lists.{_<?_, _≤?_, _=?_}
+use lib.ListN.{length, length-set}
+use Rattle.rules.specs.Lists.{_<?_, _=?_}
 use Rattle.rules.specs.Outcomes.{unusable}
-use Rattle.rules.proofs.Lists.{by, and-l, and-r}
+use Rattle.rules.proofs.Lists.{by, and-r}
 use Rattle.frames.specs.declared.Item.{Item}
 use Rattle.frames.specs.declared.Frame.{Frame}
 use Rattle.frames.specs.Frames.{readFrame, frameBytes}

@@ -24,14 +24,14 @@ use Rattle.rules.proofs.Frames.{decode-spells}
 use Rattle.rules.proofs.Shard.{start-good, step-good}
 use Rattle.frames.specs.declared.Item.{Item}
 use Rattle.frames.specs.declared.Frame.{Frame}
-use Rattle.frames.specs.Frames.{readFrame}
+use Rattle.frames.specs.Frames.{readFrame, framesBytes}
 use Rattle.frames.specs.View.{meaning, recordOf, Bytes}
 use Rattle.shard.specs.declared.Cell.{Cell}
 use Rattle.shard.specs.declared.Shard.{Shard}
 use Rattle.shard.specs.declared.Started.{Started}
 use Rattle.shard.specs.declared.Stepped.{Stepped}
 use Rattle.shard.specs.declared.Verdict.{Verdict}
-use Rattle.shard.specs.Model.{absent, emptyShard, startOf, judge, cellAt, cellAfter, Running, turn, ran, Outcome, after, settled, itemsOf, outcome, bytesOf, stepped, laid, stepOf, outOf}
+use Rattle.shard.specs.Model.{absent, emptyShard, startOf, judge, cellAt, cellAfter, Running, turn, ran, Outcome, after, settled, itemsOf, outcome, stepped, laid, stepOf, outOf}
 use Rattle.shard.specs.View.{viewCell, viewStore, viewLast, viewShard, Held, StartMeans, StepMeans}
 use Rattle.shard.proofs.Meaning.{Meant, Says, both, refused-means, head-means}
 use Rattle.frames.proofs.Meaning.{reads-mean, record-bytes}
@@ -119,7 +119,7 @@ settled-steady : (s : Shard) (xs : List Item) (v : Verdict) → Steady s → Ste
 unfolding settled after
 settled-steady s xs v h =
     by (λ (o : Outcome). Steady (o .shard)) (v .answer =? 0)
-    (λ t. record { tidy = ran-tidy (v .«log_number») xs _ (h .tidy); sound = h .sound }) (λ t. h)
+    (λ t. record { tidy = ran-tidy _ _ _ (h .tidy); sound = h .sound }) (λ t. h)
 
 empty-steady : (m own : ℕ) (started : Bool) → (T started → T (within 1 8 m && within 1 m own)) → Steady (emptyShard m own started)
 unfolding emptyShard
@@ -139,7 +139,7 @@ start-means m own r e = rw e (record { held = start-held m own; answer = start-a
 -- ---- Step
 
 -- the bytes of the records of frames are the frames' bytes
-sent-bytes : (gs : List F.Frame) → T (every obeys gs) → bytesOf (map recordOf gs) ≡ sentBytes gs
+sent-bytes : (gs : List F.Frame) → T (every obeys gs) → framesBytes (map recordOf gs) ≡ sentBytes gs
 sent-bytes [] t = refl
 sent-bytes (g ∷ gs) t = λ i. record-bytes g (and-l (obeys g) (every obeys gs) t) i ++ sent-bytes gs (and-r (obeys g) (every obeys gs) t) i
 
@@ -173,8 +173,8 @@ module _ (s : Shard) (h : Held s) (bytes : List ℕ) (read : meaning (readFrame 
   step-means out r left p =
       let o = outcome-means (length out) in
       let gs : List F.Frame = S.step (viewShard s) bytes (length out) .frames in
-      let k : bytesOf (outcome s bytes (length out) .frames) ≡ sentBytes gs =
-      ap bytesOf (o .frames) ∙ sent-bytes gs (step-good (viewShard s) (h .kept) bytes (length out) .frames) in
+      let k : framesBytes (outcome s bytes (length out) .frames) ≡ sentBytes gs =
+      ap framesBytes (o .frames) ∙ sent-bytes gs (step-good (viewShard s) (h .kept) bytes (length out) .frames) in
       rw (p .0, p .1)
       (record {
         held = held-after (length out);

@@ -57,6 +57,7 @@ others m own ssn last xs (ExecNotif shard ind) p q = refl
 others m own ssn last xs (Executed ind) p q = refl
 others m own ssn last xs (Response client number) p q = refl
 
+-- the second half of a test
 pub and-second : (a b : Bool) → a && b ≡ true → b ≡ true
 and-second true b e = e
 and-second false b e = let z : _≡_ {A = ℕ} 0 1 = cc in absurd (omega arith)

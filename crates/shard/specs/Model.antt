@@ -11,7 +11,7 @@ use Rattle.frames.specs.declared.Item.{Item}
 use Rattle.frames.specs.declared.Head.{Head}
 use Rattle.frames.specs.declared.Head.the-variants.{Bad, Submit, Forward, ShardAppend, ExecNotif, Executed, Response}
 use Rattle.frames.specs.declared.Frame.{Frame}
-use Rattle.frames.specs.Frames.{noItem, frameBytes, readFrame}
+use Rattle.frames.specs.Frames.{noItem, framesBytes, readFrame}
 use Rattle.shard.specs.declared.Cell.{Cell}
 use Rattle.shard.specs.declared.Shard.{Shard}
 use Rattle.shard.specs.declared.Started.{Started}
@@ -37,7 +37,7 @@ startOf m own =
 
 -- ---- The answer
 
--- no key is a group's of no groups
+-- "Key k belongs to shard (k mod m) + 1"; where there is no group, no key is anybody's
 unfoldable pub mine : ℕ → ℕ → Item → Bool
 mine m own x = not (m =? 0) && x.key % m + 1 =? own
 
@@ -47,23 +47,23 @@ allMine m own xs = every (mine m own) xs
 abbrev pub refused : ℕ → Verdict
 refused answer = record { answer = answer; «log_number» = 0; sn = 0 }
 
--- a ShardAppend to this group: refusals 7, 4, 8; last is the last run and 1 more
+-- a ShardAppend to this group: refusals 7, 4, 8. last is 1 more than the log number last run, 0 where none was.
 unfoldable pub judgeAppend : ℕ → ℕ → ℕ → ℕ → List Item → ℕ → ℕ → Verdict
-judgeAppend m own ssn last xs ind sn =
+judgeAppend m own ssn last xs log-number sn =
     if sn ≤? ssn then refused tooLate else
     if ssn + 1 <? sn then refused tooEarly else
     if not (allMine m own xs) then refused doesNotFit else
-    if ind <? last then refused doesNotFit else
-    record { answer = done; «log_number» = ind; sn = sn }
+    if log-number <? last then refused doesNotFit else
+    record { answer = done; «log_number» = log-number; sn = sn }
 
 -- refusals 1, 2 before these
 unfoldable pub judgeHead : ℕ → ℕ → ℕ → ℕ → List Item → Head → Verdict
 judgeHead m own ssn last xs Bad = refused breaksRule
 judgeHead m own ssn last xs (Submit client number ack) = refused notForMe
-judgeHead m own ssn last xs (Forward ind client number ack) = refused notForMe
-judgeHead m own ssn last xs (ShardAppend shard ind sn) = if shard =? own then judgeAppend m own ssn last xs ind sn else refused notForMe
-judgeHead m own ssn last xs (ExecNotif shard ind) = refused notForMe
-judgeHead m own ssn last xs (Executed ind) = refused notForMe
+judgeHead m own ssn last xs (Forward log-number client number ack) = refused notForMe
+judgeHead m own ssn last xs (ShardAppend shard log-number sn) = if shard =? own then judgeAppend m own ssn last xs log-number sn else refused notForMe
+judgeHead m own ssn last xs (ExecNotif shard log-number) = refused notForMe
+judgeHead m own ssn last xs (Executed log-number) = refused notForMe
 judgeHead m own ssn last xs (Response client number) = refused notForMe
 
 -- refusal 11 before these
@@ -78,7 +78,7 @@ cellAt cells key = getD cells key absent
 
 -- "Each put stores the value and the log number"; a get leaves its cell as it is
 unfoldable pub cellAfter : ℕ → Item → Cell → Cell
-cellAfter ind x c = if x.code =? 0 then c else record { value = x.value; «log_number» = ind; present = true }
+cellAfter log-number x c = if x.code =? 0 then c else record { value = x.value; «log_number» = log-number; present = true }
 
 -- "place (1), present 0 or 1 (1), value (4; 0 if absent)"
 unfoldable pub readOf : Item → Cell → Item
@@ -97,27 +97,27 @@ noted rs x c =
     then record { count = rs.count + 1; items = set rs.items rs.count (readOf x c) }
     else rs
 
--- what changes while a list runs
+-- what changes while a list runs: the cells, and the reads so far
 pub record Running : Type 0 where
   pub cells : List Cell
   pub reads : Reads
 
 unfoldable pub turn : ℕ → Item → Running → Running
-turn ind x r =
+turn log-number x r =
     record {
-      cells = set (r .cells) (x .key) (cellAfter ind x (cellAt (r .cells) (x .key)));
+      cells = set (r .cells) (x .key) (cellAfter log-number x (cellAt (r .cells) (x .key)));
       reads = noted (r .reads) x (cellAt (r .cells) (x .key));
     }
 
 -- "runs its operations in order; a get sees earlier puts of the same list"
 unfoldable pub ran : ℕ → List Item → Running → Running
-ran ind [] r = r
-ran ind (x ∷ xs) r = ran ind xs (turn ind x r)
+ran log-number [] r = r
+ran log-number (x ∷ xs) r = ran log-number xs (turn log-number x r)
 
 -- ---- The step
 
 unfoldable pub execNotif : ℕ → ℕ → Reads → Frame
-execNotif own ind rs = record { head = ExecNotif own ind; count = rs.count; items = rs.items }
+execNotif own log-number rs = record { head = ExecNotif own log-number; count = rs.count; items = rs.items }
 
 -- the group as it then stands, the answer, and the frames sent
 pub record Outcome : Type 0 where
@@ -127,11 +127,11 @@ pub record Outcome : Type 0 where
 
 -- "Then ssn and last run move, and ExecNotif goes to the tail"
 unfoldable pub after : Shard → ℕ → ℕ → Running → Outcome
-after s ind sn r =
+after s log-number sn r =
     record {
-      shard = record { cells = r .cells; ssn = sn; «last_run» = ind + 1; m = s.m; own = s.own; started = s.started };
+      shard = record { cells = r .cells; ssn = sn; «last_run» = log-number + 1; m = s.m; own = s.own; started = s.started };
       answer = done;
-      frames = execNotif s.own ind (r .reads) ∷ [];
+      frames = execNotif s.own log-number (r .reads) ∷ [];
     }
 
 -- the operations run, or all stays as it was
@@ -144,19 +144,16 @@ settled s xs v =
 abbrev pub itemsOf : Frame → List Item
 itemsOf f = take (f .count) (f .items)
 
+-- a frame's bytes arrive, with an out area of some length
 unfoldable pub outcome : Shard → List ℕ → ℕ → Outcome
 outcome s bytes room = settled s (itemsOf (readFrame bytes)) (judge s.started room s.m s.own s.ssn s.«last_run» (readFrame bytes))
 
--- the bytes of the frames, back to back
-abbrev pub bytesOf : List Frame → List ℕ
-bytesOf [] = []
-bytesOf (f ∷ fs) = frameBytes f ++ bytesOf fs
-
 unfoldable pub stepped : Outcome → Stepped
-stepped o = record { shard = o .shard; answer = o .answer; frames = length (o .frames); bytes = length (bytesOf (o .frames)) }
+stepped o = record { shard = o .shard; answer = o .answer; frames = length (o .frames); bytes = length (framesBytes (o .frames)) }
 
+-- "its frames stand back to back from the first byte of the out area, the other bytes are untouched"
 unfoldable pub laid : List Frame → List ℕ → List ℕ
-laid fs out = bytesOf fs ++ drop (length (bytesOf fs)) out
+laid fs out = framesBytes fs ++ drop (length (framesBytes fs)) out
 
 -- what a step gives, and what it leaves in the out area
 unfoldable pub stepOf : Shard → List ℕ → ℕ → Stepped

@@ -21,13 +21,14 @@ use Rattle.shard.specs.declared.Started.{Started}
 use Rattle.shard.specs.declared.Stepped.{Stepped}
 use Rattle.shard.specs.Model.{absent, cellAt}
 
+-- "A key never put is absent"
 unfoldable pub viewCell : Cell → Option R.Cell
 viewCell c = if c.present then some (record { value = c.value; ind = c.«log_number» }) else none
 
 unfoldable pub viewStore : List Cell → Store
 viewStore cells = λ key. viewCell (cellAt cells key)
 
--- 0: none
+-- the log number last run
 abbrev pub viewLast : ℕ → Option ℕ
 viewLast zero = none
 viewLast (suc ind) = some ind
