@@ -17,11 +17,11 @@ use Rattle.rules.specs.Transactions.{Operation}
 use Rattle.rules.specs.Frames.{okOperations}
 use Rattle.rules.specs.Session as R
 use Rattle.rules.specs.Kept.{Rise, WindowKept}
-use Rattle.rules.proofs.Lists.{by, if-no, and, and-l, and-r, T-true, T-false}
+use Rattle.rules.proofs.Lists.{by, if-yes, if-no, and, and-l, and-r, T-true, T-false}
 use Rattle.frames.specs.View.{operationsOf}
 use Rattle.window.specs.declared.Slot.{Slot}
 use Rattle.window.specs.declared.Window.{Window}
-use Rattle.window.specs.Model.{free, noSlot, freshWindow, waits, slotOf, isOutstanding, oldest, span, firstFrom, smallestOf, storing, answeredOf}
+use Rattle.window.specs.Model.{free, noSlot, freshWindow, waits, slotOf, isOutstanding, oldest, span, firstFrom, smallestOf, keptOf, storing, answeredOf}
 use Rattle.window.specs.View.{outstandingOf, outstandingFrom, viewWindow, slotFor, Waiting, Held}
 use Rattle.window.proofs.Items.{items-back, some-operations}
 
@@ -119,12 +119,44 @@ operations-means slots number (suc more) k h =
     let other : number ≡ k → ⊥ = λ q. T-not (isOutstanding slots number) n (rw q t) in
     (omega (arith, other), omega arith))))
 
-pub kept-means : (w : Window) (number : ℕ) → Held w →
+kept-found : (w : Window) (number : ℕ) → Held w →
     R.operationsOf number (viewWindow w .outstanding) ≡ (if isOutstanding (w .slots) number then some (outstandingOf (w .slots) number .operations) else none)
 unfolding viewWindow
+kept-found w number h =
+    operations-means (w .slots) (oldest (w .next)) (span (w .next)) number (λ t. let r = outstanding-range w number h t in (r .0, omega (arith, r .1)))
+
+-- the slot of an outstanding number has its operations as the rules keep them ..
+pub record KeptHere (w : Window) (number : ℕ) : Type 0 where
+  pub operations : List Operation
+  pub ok : T (okOperations operations)
+  pub slot : keptOf w number ≡ slotFor number operations
+  pub are : R.operationsOf number (viewWindow w .outstanding) ≡ some operations
+
+-- .. and of any other number the rules keep nothing
+pub record KeptNowhere (w : Window) (number : ℕ) : Type 0 where
+  pub slot : keptOf w number ≡ free
+  pub are : R.operationsOf number (viewWindow w .outstanding) ≡ none
+
+waiting-operations : (next i : ℕ) (s : Slot) (x : Waiting next i s) → operationsOf (s .count) (s .items) ≡ x .operations
+unfolding slotFor
+waiting-operations next i s x = ap (λ (y : Slot). operationsOf (y .count) (y .items)) (x .is) ∙ items-back (x .operations) (x .ok)
+
+pub kept-means : (w : Window) (number : ℕ) → Held w → KeptHere w number ⊎ KeptNowhere w number
+unfolding keptOf outstandingOf
 kept-means w number h =
-    operations-means (w .slots) (oldest (w .next)) (span (w .next)) number
-    (λ t. let r = outstanding-range w number h t in (r .0, omega (arith, r .1)))
+    let found = kept-found w number h in
+    either (isOutstanding (w .slots) number)
+    (λ t.
+    let x = outstanding-waits w number h t in
+    let e : slotOf (w .slots) number .number ≡ number = outstanding-here (w .slots) number t in
+    inl
+    (record {
+      operations = x .operations;
+      ok = x .ok;
+      slot = if-yes (isOutstanding (w .slots) number) _ _ t ∙ x .is ∙ ap (λ (k : ℕ). slotFor k (x .operations)) e;
+      are = found ∙ if-yes (isOutstanding (w .slots) number) _ _ t ∙ ap some (waiting-operations (w .next) (number % 8) (slotOf (w .slots) number) x);
+    }))
+    (λ t. inr (record { slot = if-no (isOutstanding (w .slots) number) _ _ t; are = found ∙ if-no (isOutstanding (w .slots) number) _ _ t }))
 
 -- ---- A number answered
 
@@ -351,12 +383,10 @@ invoked-held w os h t n f =
 -- ---- The rules' own window rule
 
 held-operations : (w : Window) (number : ℕ) → Held w → T (isOutstanding (w .slots) number) → T (okOperations (outstandingOf (w .slots) number .operations))
-unfolding outstandingOf slotFor
+unfolding outstandingOf
 held-operations w number h t =
     let x = outstanding-waits w number h t in
-    let s : Slot = slotOf (w .slots) number in
-    let e : operationsOf (s .count) (s .items) ≡ x .operations = ap (λ (y : Slot). operationsOf (y .count) (y .items)) (x .is) ∙ items-back (x .operations) (x .ok) in
-    rw e (x .ok)
+    rw (waiting-operations (w .next) (number % 8) (slotOf (w .slots) number) x) (x .ok)
 
 held-rise : (w : Window) → Held w → (low number more : ℕ) → low ≤ number → Rise low (outstandingFrom (w .slots) number more) (number + more)
 unfolding if_then_else_ outstandingOf

@@ -1,0 +1,6 @@
+pub mod Ways
+pub mod Lists
+pub mod Fits
+pub mod Means
+pub mod Replies
+pub mod Promises
