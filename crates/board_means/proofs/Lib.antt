@@ -1,0 +1,5 @@
+pub mod Slots
+pub mod Numbers
+pub mod Changes
+pub mod Judged
+pub mod Means
