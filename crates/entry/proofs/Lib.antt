@@ -4,3 +4,4 @@ pub mod Sets
 pub mod ByPlace
 pub mod Meaning
 pub mod Entries
+pub mod Held

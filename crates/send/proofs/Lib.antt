@@ -1,3 +1,4 @@
 pub mod Count
 pub mod Room
 pub mod Lay
+pub mod Meaning

@@ -2,7 +2,7 @@
 -- What they mean in the rules' words is in View.
 -- Assumes nothing.
 use mathlib.Core.Path.{_≡_}
-use mathlib.Core.Bool.{Bool, true, false, _&&_}
+use mathlib.Core.Bool.{Bool, _&&_}
 use mathlib.Core.List.{List, [], _∷_, _++_}
 use Prim.Native.Nat.{ℕ, zero, suc, _+_, min}
 use lib.ListN.{length, take, drop}
@@ -11,7 +11,7 @@ use Rattle.rules.specs.Outcomes.{leastOut}
 use Rattle.frames.specs.declared.Item.{Item}
 use Rattle.frames.specs.declared.Frame.{Frame}
 use Rattle.frames.specs.declared.Head.the-variants.{Forward, ShardAppend, Executed, Response}
-use Rattle.frames.specs.Frames.{frameBytes}
+use Rattle.frames.specs.Frames.{endOf, laidBehind, framesBytes}
 use Rattle.entry.specs.declared.Entry.{Entry}
 use Rattle.entry.specs.declared.Part.{Part}
 use Rattle.send.specs.declared.Sent.{Sent}
@@ -21,8 +21,7 @@ use Rattle.entry.specs.Model.{inMask, partOn, readsHeld}
 
 -- the frames' bytes, back to back
 unfoldable pub bytesOf : List Frame → List ℕ
-bytesOf [] = []
-bytesOf (f ∷ fs) = frameBytes f ++ bytesOf fs
+bytesOf fs = framesBytes fs
 
 -- the frames from the first byte on, the other bytes as they were
 unfoldable pub laid : List Frame → List ℕ → List ℕ
@@ -34,9 +33,11 @@ pub record Sends (fs : List Frame) (before after : List ℕ) (r : Sent) : Type 0
   pub bytes : r .bytes ≡ length (bytesOf fs)
   pub out : after ≡ laid fs before
 
--- some bytes laid over others from a place on
-abbrev pub layAt : List ℕ → ℕ → List ℕ → List ℕ
-layAt out at bytes = take at out ++ (bytes ++ drop (at + length bytes) out)
+-- one frame more was written behind what s counts, or nothing
+pub record Goes (going : Bool) (f : Frame) (s : Sent) (before after : List ℕ) (r : Sent) : Type 0 where
+  pub frames : r .frames ≡ s .frames + (if going then 1 else 0)
+  pub bytes : r .bytes ≡ (if going then endOf f (s .bytes) (length before) else s .bytes)
+  pub out : after ≡ (if going then laidBehind f (s .bytes) before else before)
 
 -- ---- The frames
 

@@ -1,13 +1,11 @@
 // The frames that an entry of the log now makes its board send, written back to back. Of the board only what is needed is
 // handed over, so that none is copied.
-// What it means in the rules' words, their `onward`, stands in specs/View.antt and is proved in proofs/Meaning.antt.
+// They are the rules' `onward`, in number and in every byte: `send-means` in proofs/Meaning.antt.
 ghost use mathlib.Core.Path.{_≡_};
-ghost use mathlib.Core.Bool.{Bool, true, false};
 ghost use Prim.Native.Nat.{_+_, _≤_, min};
 ghost use lib.ListN.{length, take};
 ghost use Rattle.rules.specs.Lists.{if_then_else_};
-ghost use Rattle.frames.specs.Frames.{frameBytes};
-ghost use Rattle.send.specs.Model.{Sends, layAt, countIn, backwardOf, forwardFrame, appendFrame, appendsTo, sendParts};
+ghost use Rattle.send.specs.Model.{Sends, Goes, countIn, backwardOf, forwardFrame, appendFrame, appendsTo, sendParts};
 use entry::Entry;
 use entry::Part;
 use frames::Frame;
@@ -122,17 +120,16 @@ fn shard_append(shard: u8, log_number: LogNumber, sn: u16, p: Part) -> Frame
 
 // One frame more behind those that were sent, if it goes.
 fn more(s: Sent, goes: bool, f: Frame, out: &mut [u8]) -> Sent
-    requires { ⌜ (f .count ≤ 4) × (s .bytes + (if goes then length (frameBytes f) else 0) ≤ length (now out)) × (s .frames ≤ 254) ⌝ }
-    ensures { λ r. ⌜ (r .frames ≡ s .frames + (if goes then 1 else 0)) × (r .bytes ≡ s .bytes + (if goes then length (frameBytes f) else 0)) × (now (out .exit) ≡ (if goes then layAt (now (out .entry)) (s .bytes) (frameBytes f) else now (out .entry))) ⌝ }
+    requires { ⌜ s .frames ≤ 254 ⌝ }
+    ensures { λ r. ⌜ Goes goes f s (now (out .entry)) (now (out .exit)) r ⌝ }
 {
     if !goes {
         return s;
     }
-    let at = s.bytes;
-    let written = frames::write_frame(f, &mut out[at..]);
+    let end = frames::write_behind(f, out, s.bytes);
     Sent {
         frames: s.frames + 1,
-        bytes: at + written,
+        bytes: end,
     }
 }
 

@@ -7,7 +7,7 @@ use Prim.Native.Nat.{_≤_, _+_, _-_}
 use lib.ListN.{length, length-map}
 use Rattle.send.specs.Model.{appendsTo, bytesOf, laid}
 use Rattle.send.proofs.Room.{appends-few, appends-room}
-use Rattle.send.proofs.Lay.{laid-length, turn-few, turned, turn-room}
+use Rattle.send.proofs.Lay.{laid-length, turned}
 use borrow.Author.Needs.{needs}
 use Rattle.send.proofs.appends.Statement.{statement}
 use Rattle.send.proofs.appends.Tie as tie
@@ -23,17 +23,12 @@ unfolding appendsTo bytesOf laid
 loop-holds c = (search needs, search needs, refl, refl, refl, simp length-map at (c .before .before .good .0 .1 .1 .1 .1 .1 .0 .1 .0 .1))
 
 more-requires : tie.Need-more-requires Inv-loop μ-loop
-more-requires c κs = let a = c .before .before .before .before .before .before .before .before .before .before .args in let l = c .before .before .before .before .before .before .before .loop in let e = a .e in
-    let k = ap length (l .inv .4) ∙ laid-length (appendsTo (e .remaining) (e .count) (e .items) (a .m) (a .log-number) (a .masks) (l .last)) (a .out .now) (omega (arith, appends-room (e .remaining) (e .count) (e .items) (a .m) (a .log-number) (a .masks) (l .last) (l .inv .5), l .inv .1)) in (
-      turn-few (e .remaining) (e .count) (e .items) (a .m) (a .log-number) (a .masks) (l .last) (a .out .now) (l .out) (l .s .frames) (l .s .bytes) (l .inv .5) (l .inv .2) (l .inv .3) (l .inv .4) (l .last + 1) (add-one (l .last)) _ _ _ _ _ (c .before .before .before .before .before .part-on .ensures) (c .before .before .before .before .in-mask .ensures) refl (c .before .before .sn-of .ensures) (c .before .shard-append .ensures),
-      omega (arith, turn-room (e .remaining) (e .count) (e .items) (a .m) (a .log-number) (a .masks) (l .last) (a .out .now) (l .out) (l .s .frames) (l .s .bytes) (l .inv .5) (l .inv .2) (l .inv .3) (l .inv .4) (l .last + 1) (add-one (l .last)) _ _ _ _ _ (c .before .before .before .before .before .part-on .ensures) (c .before .before .before .before .in-mask .ensures) refl (c .before .before .sn-of .ensures) (c .before .shard-append .ensures), k, l .inv .1),
-      omega (arith, appends-few (e .remaining) (e .count) (e .items) (a .m) (a .log-number) (a .masks) (l .last), l .inv .2),
-    )
+more-requires c κs = let a = c .before .before .before .before .before .before .before .before .before .before .args in let l = c .before .before .before .before .before .before .before .loop in let e = a .e in omega (arith, appends-few (e .remaining) (e .count) (e .items) (a .m) (a .log-number) (a .masks) (l .last), l .inv .2)
 
 loop-again : tie.Need-loop-again Inv-loop μ-loop
 loop-again c = let a = c .before .before .before .before .before .before .before .before .before .before .before .before .before .args in let l = c .before .before .before .before .before .before .before .before .before .before .loop in let e = a .e in
-    let t = turned (e .remaining) (e .count) (e .items) (a .m) (a .log-number) (a .masks) (l .last) (a .out .now) (l .out) (l .s .frames) (l .s .bytes) (l .inv .5) (l .inv .2) (l .inv .3) (l .inv .4) (l .last + 1) (add-one (l .last)) _ _ _ _ _ (c .before .before .before .before .before .before .before .before .part-on .ensures) (c .before .before .before .before .before .before .before .in-mask .ensures) refl (c .before .before .before .before .before .sn-of .ensures) (c .before .before .before .before .shard-append .ensures) in
-    (search needs, l .inv .1, rw add-one (c .before .before .more .ensures .0 ∙ t .1), rw add-one (c .before .before .more .ensures .1 ∙ t .0), rw add-one (c .before .before .more .ensures .2 ∙ t .2), l .inv .5)
+    let t = turned (e .remaining) (e .count) (e .items) (a .m) (a .log-number) (a .masks) (l .last) (a .out .now) (l .out) (l .s .frames) (l .s .bytes) (l .inv .5) (l .inv .1) (l .inv .2) (l .inv .3) (l .inv .4) (l .last + 1) (add-one (l .last)) _ _ _ _ _ (c .before .before .before .before .before .before .before .before .part-on .ensures) (c .before .before .before .before .before .before .before .in-mask .ensures) refl (c .before .before .before .before .before .sn-of .ensures) (c .before .before .before .before .shard-append .ensures) in
+    (search needs, l .inv .1, rw add-one (c .before .before .more .ensures .frames ∙ t .0), rw add-one (c .before .before .more .ensures .bytes ∙ t .1), rw add-one (c .before .before .more .ensures .out ∙ t .2), l .inv .5)
 
 same-length : tie.Need-same-length Inv-loop μ-loop
 same-length c = let a = c .before .before .before .before .args in let l = c .before .loop in let e = a .e in ap length (l .inv .4) ∙ laid-length (appendsTo (e .remaining) (e .count) (e .items) (a .m) (a .log-number) (a .masks) (l .last)) (a .out .now) (omega (arith, appends-room (e .remaining) (e .count) (e .items) (a .m) (a .log-number) (a .masks) (l .last) (l .inv .5), l .inv .1))
