@@ -84,14 +84,16 @@ slots-bytes shape i count (x ∷ xs) =
 
 -- four slots behind the count are the list
 pub four-slots : (shape : Shape) (count : ℕ) (a b c d : Item)
-    → (((((count ∷ []) ++ slotBytes shape 0 count a) ++ slotBytes shape 1 count b) ++ slotBytes shape 2 count c) ++ slotBytes shape 3 count d)
+    → ((count ∷ []) ++ (slotBytes shape 0 count a ++ slotBytes shape 1 count b)) ++ (slotBytes shape 2 count c ++ slotBytes shape 3 count d)
     ≡ listBytes shape count (a ∷ b ∷ c ∷ d ∷ [])
 four-slots shape count a b c d =
     let e = slots-bytes shape 0 count (a ∷ b ∷ c ∷ d ∷ []) in
     simp append-assoc (ap (λ (l : List ℕ). count ∷ l) (simp (append-nil, sub-zero) at e))
 
 pub put-four : {l n : List ℕ} {at e : ℕ} (shape : Shape) (count : ℕ) (xs : List Item) → length xs ≡ 4
-    → Put l n at e (((((count ∷ []) ++ slotBytes shape 0 count (getD xs 0 noItem)) ++ slotBytes shape 1 count (getD xs 1 noItem)) ++ slotBytes shape 2 count (getD xs 2 noItem)) ++ slotBytes shape 3 count (getD xs 3 noItem))
+    → Put l n at e
+    (((count ∷ []) ++ (slotBytes shape 0 count (getD xs 0 noItem) ++ slotBytes shape 1 count (getD xs 1 noItem)))
+    ++ (slotBytes shape 2 count (getD xs 2 noItem) ++ slotBytes shape 3 count (getD xs 3 noItem)))
     → Put l n at e (listBytes shape count xs)
 put-four shape count xs k p =
     let q = four-slots shape count (getD xs 0 noItem) (getD xs 1 noItem) (getD xs 2 noItem) (getD xs 3 noItem) in

@@ -569,27 +569,43 @@ fn put32(out: &mut [u8], at: usize, x: u32) -> usize
     put16(out, next, high)
 }
 
+// "0 get or 1 put (1), key (1), value (4; 0 for get)"
+fn put_operation(out: &mut [u8], at: usize, x: Item) -> usize
+    requires { ⌜ at < 3500 ⌝ }
+    ensures { λ r. ⌜ Put (now (out .entry)) (now (out .exit)) at r (itemBytes Shape.Operation x) ⌝ }
+{
+    let at = put8(out, at, x.code);
+    let at = put8(out, at, x.key);
+    put32(out, at, x.value)
+}
+
+// "A placed operation has its place 0..3 (1) before it."
+fn put_placed(out: &mut [u8], at: usize, x: Item) -> usize
+    requires { ⌜ at < 3400 ⌝ }
+    ensures { λ r. ⌜ Put (now (out .entry)) (now (out .exit)) at r (itemBytes Shape.Placed x) ⌝ }
+{
+    let at = put8(out, at, x.place);
+    put_operation(out, at, x)
+}
+
+// "place (1), present 0 or 1 (1), value (4; 0 if absent)"
+fn put_read(out: &mut [u8], at: usize, x: Item) -> usize
+    requires { ⌜ at < 3400 ⌝ }
+    ensures { λ r. ⌜ Put (now (out .entry)) (now (out .exit)) at r (itemBytes Shape.Read x) ⌝ }
+{
+    let at = put8(out, at, x.place);
+    let at = put8(out, at, x.code);
+    put32(out, at, x.value)
+}
+
 fn put_item(out: &mut [u8], shape: Shape, at: usize, x: Item) -> usize
     requires { ⌜ at < 3000 ⌝ }
     ensures { λ r. ⌜ Put (now (out .entry)) (now (out .exit)) at r (itemBytes shape x) ⌝ }
 {
     match shape {
-        Shape::Operation => {
-            let key = put8(out, at, x.code);
-            let value = put8(out, key, x.key);
-            put32(out, value, x.value)
-        }
-        Shape::Placed => {
-            let code = put8(out, at, x.place);
-            let key = put8(out, code, x.code);
-            let value = put8(out, key, x.key);
-            put32(out, value, x.value)
-        }
-        Shape::Read => {
-            let code = put8(out, at, x.place);
-            let value = put8(out, code, x.code);
-            put32(out, value, x.value)
-        }
+        Shape::Operation => put_operation(out, at, x),
+        Shape::Placed => put_placed(out, at, x),
+        Shape::Read => put_read(out, at, x),
     }
 }
 
@@ -605,6 +621,16 @@ fn put_slot(out: &mut [u8], shape: Shape, at: usize, i: u8, count: u8, x: Item) 
     at
 }
 
+// Items i and i + 1 of count.
+fn put_pair(out: &mut [u8], shape: Shape, at: usize, i: u8, count: u8, x: Item, y: Item) -> usize
+    requires { ⌜ (at < 2850) × (i < 4) ⌝ }
+    ensures { λ r. ⌜ Put (now (out .entry)) (now (out .exit)) at r (slotBytes shape i count x ++ slotBytes shape (i + 1) count y) ⌝ }
+    ensures { λ r. ⌜ r ≤ at + 14 ⌝ }
+{
+    let at = put_slot(out, shape, at, i, count, x);
+    put_slot(out, shape, at, i + 1, count, y)
+}
+
 // The count and then as many items.
 fn put_list(out: &mut [u8], shape: Shape, at: usize, count: u8, items: [Item; 4]) -> usize
     requires { ⌜ at < 2800 ⌝ }
@@ -614,11 +640,9 @@ fn put_list(out: &mut [u8], shape: Shape, at: usize, count: u8, items: [Item; 4]
     let b = items[1];
     let c = items[2];
     let d = items[3];
-    let first = put8(out, at, count);
-    let second = put_slot(out, shape, first, 0, count, a);
-    let third = put_slot(out, shape, second, 1, count, b);
-    let fourth = put_slot(out, shape, third, 2, count, c);
-    put_slot(out, shape, fourth, 3, count, d)
+    let at = put8(out, at, count);
+    let at = put_pair(out, shape, at, 0, count, a, b);
+    put_pair(out, shape, at, 2, count, c, d)
 }
 
 // The length field and the header.
@@ -630,7 +654,7 @@ fn put_header(out: &mut [u8], len: u16, kind: u16) -> usize
 }
 
 fn put_submit(out: &mut [u8], at: usize, client: u8, number: u16, ack: u16) -> usize
-    requires { ⌜ at < 100 ⌝ }
+    requires { ⌜ at < 200 ⌝ }
     ensures { λ r. ⌜ Put (now (out .entry)) (now (out .exit)) at r (fieldBytes (Head.Submit client number ack)) ⌝ }
 {
     let at = put8(out, at, client);
@@ -650,9 +674,7 @@ fn put_forward(
     ensures { λ r. ⌜ Put (now (out .entry)) (now (out .exit)) at r (fieldBytes (Head.Forward «log_number» client number ack)) ⌝ }
 {
     let at = put16(out, at, log_number);
-    let at = put8(out, at, client);
-    let at = put16(out, at, number);
-    put16(out, at, ack)
+    put_submit(out, at, client, number, ack)
 }
 
 fn put_shard_append(out: &mut [u8], at: usize, shard: u8, log_number: LogNumber, sn: u16) -> usize

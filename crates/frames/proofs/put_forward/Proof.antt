@@ -4,7 +4,7 @@ use Rattle.frames.proofs.put_forward.Statement.{statement}
 use Rattle.frames.proofs.put_forward.Tie as tie
 
 returns : tie.Need-returns
-returns c = behind (behind (behind (c .before .before .before .before .before .before .before .before .before .before .before .before .before .before .put16 .ensures) (c .before .before .before .before .before .before .before .before .before .before .put8 .ensures)) (c .before .before .before .before .before .before .put162 .ensures)) (c .before .before .put163 .ensures)
+returns c = behind (c .before .before .before .before .before .before .put16 .ensures) (c .before .before .put-submit .ensures)
 
 pub put-forward-spec : {M : Type 1} → statement M
-put-forward-spec = tie.close (tie.spec (λ c κs. search needs) (λ c κs. search needs) (λ c κs. search needs) (λ c κs. search needs) (λ c. search needs) returns)
+put-forward-spec = tie.close (tie.spec (λ c κs. search needs) (λ c κs. search needs) (λ c. search needs) returns)

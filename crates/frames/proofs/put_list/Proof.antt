@@ -9,7 +9,7 @@ four : (c : tie.Start) → length (c .args .t5) ≡ 4
 four c = search needs
 
 returns : tie.Need-returns
-returns c = put-four (c .before .before .before .before .before .before .before .before .before .before .before .before .before .before .before .before .before .before .before .before .before .before .before .before .before .args .shape) (c .before .before .before .before .before .before .before .before .before .before .before .before .before .before .before .before .before .before .before .before .before .before .before .before .before .args .count) (c .before .before .before .before .before .before .before .before .before .before .before .before .before .before .before .before .before .before .before .before .before .before .before .before .before .args .t5) (four (c .before .before .before .before .before .before .before .before .before .before .before .before .before .before .before .before .before .before .before .before .before .before .before .before .before)) (behind (behind (behind (behind (c .before .before .before .before .before .before .before .before .before .before .before .before .before .before .before .before .before .before .put8 .ensures) (c .before .before .before .before .before .before .before .before .before .before .before .before .before .before .put-slot .ensures .0)) (c .before .before .before .before .before .before .before .before .before .before .put-slot2 .ensures .0)) (c .before .before .before .before .before .before .put-slot3 .ensures .0)) (c .before .before .put-slot4 .ensures .0))
+returns c = put-four (c .before .before .before .before .before .before .before .before .before .before .before .before .before .before .before .before .before .args .shape) (c .before .before .before .before .before .before .before .before .before .before .before .before .before .before .before .before .before .args .count) (c .before .before .before .before .before .before .before .before .before .before .before .before .before .before .before .before .before .args .t5) (four (c .before .before .before .before .before .before .before .before .before .before .before .before .before .before .before .before .before)) (behind (behind (c .before .before .before .before .before .before .before .before .before .before .put8 .ensures) (c .before .before .before .before .before .before .put-pair .ensures .0)) (c .before .before .put-pair2 .ensures .0))
 
 pub put-list-spec : {M : Type 1} → statement M
-put-list-spec = tie.close (tie.spec (λ c. search needs) (λ c. search needs) (λ c. search needs) (λ c. search needs) (λ c κs. search needs) (λ c κs. search needs) (λ c κs. search needs) (λ c κs. search needs) (λ c κs. search needs) (λ c. search needs) returns)
+put-list-spec = tie.close (tie.spec (λ c. search needs) (λ c. search needs) (λ c. search needs) (λ c. search needs) (λ c κs. search needs) (λ c κs. search needs) (λ c κs. search needs) (λ c. search needs) returns)
