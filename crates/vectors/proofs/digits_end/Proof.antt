@@ -1,0 +1,15 @@
+-- What is passed is at most what there is; what is left falls.
+use Prim.Native.Nat.{_≤_, _-_}
+use lib.ListN.{length}
+use borrow.Author.Needs.{needs}
+use Rattle.vectors.proofs.digits_end.Statement.{statement}
+use Rattle.vectors.proofs.digits_end.Tie as tie
+
+abbrev Inv-loop : tie.InvT-loop
+Inv-loop text end₀ end = end ≤ length text
+
+abbrev μ-loop : tie.MeasureT-loop
+μ-loop text end₀ end = length text - end
+
+pub digits-end-spec : {M : Type 1} → statement M
+digits-end-spec = tie.close (tie.spec Inv-loop μ-loop (λ c. search needs) (λ c. search needs) (λ c κs. search needs) (λ c. search needs) (λ c. search needs) (λ c. search needs) (λ c. search needs) (λ c. search needs))
