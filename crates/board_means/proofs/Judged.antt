@@ -9,7 +9,7 @@ use Prim.Native.Nat.{ℕ, zero, suc, _+_, _≤_, _<_, max}
 use native.Mathlib.Omega.{arith}
 use lib.Dec.{T, leb, ltb, eqb, leb→le, ltb→lt, lt→ltb, nltb→le, nleb→lt, le→leb, eqb→eq, T-not}
 use lib.ListN.{length, set, take, length-map}
-use mir.Facts.{no-eqb, no-leb}
+use mir.Facts.{no-leb, no-ltb}
 use Rattle.rules.specs.Lists.{if_then_else_, _<?_, at, snoc, isEmpty, changed, has, insert, strike}
 use Rattle.rules.specs.Transactions.{Operation, Write, Read, touched, touches, placed, onShard, sameWrite}
 use Rattle.rules.specs.Frames as F
@@ -37,7 +37,9 @@ use Rattle.entry.proofs.Sets.{in-set, insert-set, strike-set, touched-set}
 use Rattle.entry.proofs.Slots.{beside-few, part-slots}
 use Rattle.entry.proofs.Meaning.{placed-view, part-view, same-write-view, fits-view}
 use Rattle.entry.proofs.Entries.{Carried, theWrite, new-view, new-held, heard-view, heard-held, finished-view, finished-held}
-use Rattle.send.specs.Model.{bytesOf, sendParts}
+use Rattle.send.specs.Model.{bytesOf, onwardOf, sendParts}
+use Rattle.send.specs.View.{PartsOf}
+use Rattle.send.proofs.Meaning.{onward-count, onward-bytes}
 use Rattle.verdict.specs.declared.Verdict.{Verdict}
 use Rattle.verdict.specs.Model.{nextOf, floorOf, refuseOf, newOf, heldOf, judgeSubmit, judgeForward, judgeExecNotif, judgeExecuted}
 use Rattle.board.specs.declared.Board.{Board}
@@ -56,13 +58,31 @@ pub record Sends (fs : List Frame) (gs : List F.Frame) : Type 0 where
   pub count : length fs ≡ length gs
   pub bytes : bytesOf fs ≡ sentBytes gs
 
--- what an entry makes a board send is what the rules say: of any board that means this
-abbrev pub SendLaw : Type 0
-SendLaw =
-    (n m own floor ind room : ℕ) (masks : List ℕ) (es : List Entry) (e : Entry) (r : B.Board) → 1 ≤ m → m ≤ 8 → 68 ≤ room → r .n ≡ n → r .m ≡ m → r .own ≡ own
+-- what an entry makes a board send is what the rules say, of any board that means this
+send-law : (n m own floor ind room : ℕ) (masks : List ℕ) (es : List Entry) (e : Entry) (r : B.Board) → 1 ≤ m → m ≤ 8 → 68 ≤ room → r .n ≡ n → r .m ≡ m → r .own ≡ own
     → r .log ≡ viewLog m es → r .floor (e .client) ≡ floor → take (length es) masks ≡ map (maskIn m) es → at es ind ≡ some e → EntryHeld m e
     → ((j : ℕ) → T (has j (setOf (e .remaining))) → T (touches m j (operationsOf (e .count) (e .items))))
     → Sends (sendParts e n m own floor ind masks room) (onward r ind (viewEntry m e))
+unfolding sendParts
+send-law n m own floor ind room masks es e r lo hi wide n-is m-is own-is log-is floor-is masks-are a held remains =
+    let p : PartsOf r es e n m own floor ind masks = record {
+      n-is = n-is;
+      m-is = m-is;
+      own-is = own-is;
+      floor-is = floor-is;
+      log-is = log-is;
+      masks-are = masks-are;
+      inside = at-lt es ind e a;
+      low = lo;
+      high = hi;
+      held = held;
+      remains = unfold viewEntry writeOf in remains;
+    } in
+    let all : (if ltb room 68 then [] else onwardOf e n m own floor ind masks) ≡ onwardOf e n m own floor ind masks = if-no (ltb room 68) [] (onwardOf e n m own floor ind masks) (no-ltb {a = room} {b = 68} wide) in
+    record {
+      count = ap length all ∙ onward-count r es e n m own floor ind masks p;
+      bytes = ap bytesOf all ∙ onward-bytes r es e n m own floor ind masks p;
+    }
 
 -- ---- A step means a step
 
@@ -88,7 +108,7 @@ part-slots-enough m j count items h =
     let n = part-slots (chosen (isOn m j) count items) (omega arith) in
     omega arith
 
-module _ (send-means : SendLaw) (b : Board) (held : Held b) (ready : T (b .started)) (lo : 1 ≤ b .m) (hi : b .m ≤ 8) (room : ℕ) (wide : 68 ≤ room) where
+module _ (b : Board) (held : Held b) (ready : T (b .started)) (lo : 1 ≤ b .m) (hi : b .m ≤ 8) (room : ℕ) (wide : 68 ≤ room) where
   abbrev c : Columns b
   c = held .columns
 
@@ -140,7 +160,7 @@ module _ (send-means : SendLaw) (b : Board) (held : Held b) (ready : T (b .start
       → ((j : ℕ) → T (has j (setOf (e .remaining))) → T (touches (b .m) j (operationsOf (e .count) (e .items))))
       → Sends (sendParts e (after .n) (b .m) (after .own) (floorOf (after .floor) (e .client)) ind (after .touched) room) (onward (viewBoard after) ind (viewEntry (b .m) e))
   sent-after after k d ind e a h t =
-      send-means (after .n) (b .m) (after .own) (floorOf (after .floor) (e .client)) ind room (after .touched) (entriesOf after) e (viewBoard after) lo hi wide (unfold viewBoard in refl)
+      send-law (after .n) (b .m) (after .own) (floorOf (after .floor) (e .client)) ind room (after .touched) (entriesOf after) e (viewBoard after) lo hi wide (unfold viewBoard in refl)
       (unfold viewBoard in d) (unfold viewBoard in refl) (unfold viewBoard in (ap (λ m. viewLog m (entriesOf after)) d)) (unfold viewBoard in refl)
       (rw (entries-length after k) (k .masks ∙ ap (λ m. map (maskIn m) (entriesOf after)) d)) a h t
 

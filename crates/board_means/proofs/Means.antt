@@ -46,7 +46,7 @@ use Rattle.board.specs.declared.Stepped.{Stepped}
 use Rattle.board.specs.Model as M
 use Rattle.board.specs.Model.{emptyBoard, inRange, startOf, nameOf, positionOf, placeOf, boardAfter, takenStep, judgedStep, verdictOf, frameStep, outcome, stepOf, outOf}
 use Rattle.board_means.specs.View.{entriesOf, viewLog, viewBoard, nameIn, maskIn, Columns, Held, StartMeans, StepMeans}
-use Rattle.board_means.proofs.Judged.{SendLaw, Sends, nothing-sent, Lifts, Judged, refusing, either, submit-means, forward-means, exec-notif-means, executed-means}
+use Rattle.board_means.proofs.Judged.{Sends, nothing-sent, Lifts, Judged, refusing, either, submit-means, forward-means, exec-notif-means, executed-means}
 
 -- the same test on both sides
 both-ways : {A : Type 0} {B : Type 0} (R : A → B → Type 0) {x y : A} {p q : B} (t u : Bool) → t ≡ u → (T t → R x p) → (T (not t) → R y q)
@@ -56,28 +56,28 @@ both-ways R false u e f g = rw (← e) (unfold if_then_else_ in (g tt))
 
 -- ---- A step on a frame
 
-module _ (send-means : SendLaw) (b : Board) (held : Held b) (started : T (b .started)) (lo : 1 ≤ b .m) (hi : b .m ≤ 8) (room : ℕ) (wide : 68 ≤ room) where
+module _ (b : Board) (held : Held b) (started : T (b .started)) (lo : 1 ≤ b .m) (hi : b .m ≤ 8) (room : ℕ) (wide : 68 ≤ room) where
   abbrev place : Head → ℕ
   place h = placeOf h (b .next) (b .names) (b .len)
 
   abbrev Means : Head → ℕ → List Item → Type 0
   Means h n xs = Lifts (frameStep b (record { head = h; count = n; items = xs }) (place h) room) (B.readStep (viewBoard b) (meant h n xs))
 
-  not-for-me : (h : Head) → Judged send-means b held started lo hi room wide (place h) (refuseOf 2) (refuse 2 (viewBoard b))
-  not-for-me h = refusing send-means b held started lo hi room wide (place h) 2 tt
+  not-for-me : (h : Head) → Judged b held started lo hi room wide (place h) (refuseOf 2) (refuse 2 (viewBoard b))
+  not-for-me h = refusing b held started lo hi room wide (place h) 2 tt
 
   write-of : (client number ack n : ℕ) (xs : List Item) → T (okWrite (theWrite client number n xs) ack) → WriteRules (theWrite client number n xs) ack
   write-of client number ack n xs t = write-rules (theWrite client number n xs) ack t
 
   means : (h : Head) (n : ℕ) (xs : List Item) → T (valid (record { head = h; count = n; items = xs })) → CanonFrame (record { head = h; count = n; items = xs }) → Means h n xs
   unfolding frameStep verdictOf judgeOf B.readStep B.frameStep placeOf meaning
-  means Bad n xs v cn = refusing send-means b held started lo hi room wide (b .len) 1 tt .means
+  means Bad n xs v cn = refusing b held started lo hi room wide (b .len) 1 tt .means
   means (Submit client number ack) n xs v cn =
       let g : T (okWrite (theWrite client number n xs) ack) = unfold obeys in (valid-obeys (record { head = Submit client number ack; count = n; items = xs }) (submit (theWrite client number n xs) ack) v cn refl) in
       let w = write-of client number ack n xs g in
-      either send-means b held started lo hi room wide (place (Submit client number ack)) (eqb (b .own) 1) (eqb (viewBoard b .own) 1) (unfold viewBoard in refl)
+      either b held started lo hi room wide (place (Submit client number ack)) (eqb (b .own) 1) (eqb (viewBoard b .own) 1) (unfold viewBoard in refl)
       (λ t.
-      submit-means send-means b held started lo hi room wide (place (Submit client number ack)) client number ack n xs (let k = w .client in omega arith) (let k = w .number in omega arith) (cn .0)
+      submit-means b held started lo hi room wide (place (Submit client number ack)) client number ack n xs (let k = w .client in omega arith) (let k = w .number in omega arith) (cn .0)
       (items-of (record { head = Submit client number ack; count = n; items = xs }) v) (cn .1) w
       (λ late. if-yes (ltb number (nextOf (b .next) client)) (positionOf (nameOf client number) (take (b .len) (b .names))) (b .len) late)
       (λ late. if-no (ltb number (nextOf (b .next) client)) (positionOf (nameOf client number) (take (b .len) (b .names))) (b .len) late))
@@ -86,25 +86,25 @@ module _ (send-means : SendLaw) (b : Board) (held : Held b) (started : T (b .sta
       let g : T (okInd ind && okWrite (theWrite client number n xs) ack)
       = unfold obeys in (valid-obeys (record { head = Forward ind client number ack; count = n; items = xs }) (forward ind (theWrite client number n xs) ack) v cn refl) in
       let w = write-of client number ack n xs (and-r (okInd ind) (okWrite (theWrite client number n xs) ack) g) in
-      either send-means b held started lo hi room wide ind (leb 2 (b .own)) (leb 2 (viewBoard b .own)) (unfold viewBoard in refl)
+      either b held started lo hi room wide ind (leb 2 (b .own)) (leb 2 (viewBoard b .own)) (unfold viewBoard in refl)
       (λ t.
-      forward-means send-means b held started lo hi room wide ind client number ack n xs (leb→le ind 255 (and-l (okInd ind) (okWrite (theWrite client number n xs) ack) g)) (let k = w .client in omega arith) (cn .0)
+      forward-means b held started lo hi room wide ind client number ack n xs (leb→le ind 255 (and-l (okInd ind) (okWrite (theWrite client number n xs) ack) g)) (let k = w .client in omega arith) (cn .0)
       (items-of (record { head = Forward ind client number ack; count = n; items = xs }) v) (cn .1) w)
       (λ t. not-for-me (Forward ind client number ack)) .means
   means (ShardAppend j ind sn) n xs v cn = not-for-me (ShardAppend j ind sn) .means
   means (ExecNotif j ind) n xs v cn =
       let g : T (within 1 8 j && okInd ind && okReads (readsOf n xs)) = unfold obeys in (valid-obeys (record { head = ExecNotif j ind; count = n; items = xs }) (execNotif j ind (readsOf n xs)) v cn refl) in
       let w = and-l (within 1 8 j) (okInd ind) (and-l (within 1 8 j && okInd ind) (okReads (readsOf n xs)) g) in
-      either send-means b held started lo hi room wide ind (eqb (b .own) (b .n) && leb j (b .m)) (eqb (viewBoard b .own) (viewBoard b .n) && leb j (viewBoard b .m)) (unfold viewBoard in refl)
+      either b held started lo hi room wide ind (eqb (b .own) (b .n) && leb j (b .m)) (eqb (viewBoard b .own) (viewBoard b .n) && leb j (viewBoard b .m)) (unfold viewBoard in refl)
       (λ t.
-      exec-notif-means send-means b held started lo hi room wide j ind n xs (leb→le 1 j (and-l (leb 1 j) (leb j 8) w)) (leb→le j 8 (and-r (leb 1 j) (leb j 8) w))
+      exec-notif-means b held started lo hi room wide j ind n xs (leb→le 1 j (and-l (leb 1 j) (leb j 8) w)) (leb→le j 8 (and-r (leb 1 j) (leb j 8) w))
       (record { slots = cn .0; items = items-of (record { head = ExecNotif j ind; count = n; items = xs }) v; canon = cn .1; obeys = and-r (within 1 8 j && okInd ind) (okReads (readsOf n xs)) g }))
       (λ t. not-for-me (ExecNotif j ind)) .means
   means (Executed ind) n xs v cn =
       let g : T (okInd ind && okReads (readsOf n xs)) = unfold obeys in (valid-obeys (record { head = Executed ind; count = n; items = xs }) (executed ind (readsOf n xs)) v cn refl) in
-      either send-means b held started lo hi room wide ind (ltb (b .own) (b .n)) (ltb (viewBoard b .own) (viewBoard b .n)) (unfold viewBoard in refl)
+      either b held started lo hi room wide ind (ltb (b .own) (b .n)) (ltb (viewBoard b .own) (viewBoard b .n)) (unfold viewBoard in refl)
       (λ t.
-      executed-means send-means b held started lo hi room wide ind n xs
+      executed-means b held started lo hi room wide ind n xs
       (record { slots = cn .0; items = items-of (record { head = Executed ind; count = n; items = xs }) v; canon = cn .1; obeys = and-r (okInd ind) (okReads (readsOf n xs)) g }))
       (λ t. not-for-me (Executed ind)) .means
   means (Response client number) n xs v cn = not-for-me (Response client number) .means
@@ -119,7 +119,7 @@ module _ (send-means : SendLaw) (b : Board) (held : Held b) (started : T (b .sta
       good f v cn = unfold meaning in (means (f .head) (f .count) (f .items) v cn)
 
       bad : Lifts (frameStep b badFrame (place (badFrame .head)) room) (B.readStep (viewBoard b) (meaning badFrame))
-      bad = unfold badFrame frameStep verdictOf judgeOf B.readStep meaning placeOf in (refusing send-means b held started lo hi room wide (b .len) 1 tt .means)
+      bad = unfold badFrame frameStep verdictOf judgeOf B.readStep meaning placeOf in (refusing b held started lo hi room wide (b .len) 1 tt .means)
 
 -- ---- What stays of a board
 
@@ -141,7 +141,7 @@ same-setup b s room =
 
 -- ---- The step
 
-module _ (send-means : SendLaw) (b : Board) (held : Held b) (s : List ℕ) (bytes : Bytes s) where
+module _ (b : Board) (held : Held b) (s : List ℕ) (bytes : Bytes s) where
   outcome-means : (room : ℕ) → Lifts (outcome b s room) (B.step (viewBoard b) s room)
   unfolding outcome B.step
   outcome-means room =
@@ -150,7 +150,7 @@ module _ (send-means : SendLaw) (b : Board) (held : Held b) (s : List ℕ) (byte
       let on = ready (b .started) (ltb room 68) usable in
       let w = held .setup on in
       let m = and-r (within 2 8 (b .n)) (within 1 8 (b .m)) (and-l (within 2 8 (b .n) && within 1 8 (b .m)) (within 1 (b .n) (b .own)) w) in
-      bytes-mean send-means b held on (leb→le 1 (b .m) (and-l (leb 1 (b .m)) (leb (b .m) 8) m)) (leb→le (b .m) 8 (and-r (leb 1 (b .m)) (leb (b .m) 8) m)) room (wide-enough (b .started) usable) s bytes)
+      bytes-mean b held on (leb→le 1 (b .m) (and-l (leb 1 (b .m)) (leb (b .m) 8) m)) (leb→le (b .m) 8 (and-r (leb 1 (b .m)) (leb (b .m) 8) m)) room (wide-enough (b .started) usable) s bytes)
     where
       wide-enough : (t : Bool) → T (not (not t || ltb room 68)) → 68 ≤ room
       wide-enough true x = nltb→le room 68 x
