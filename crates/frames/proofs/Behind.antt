@@ -1,16 +1,16 @@
 -- Frames written one behind the other: all their bytes stand from the first byte of the out area on, and nothing else changes.
 -- Assumes nothing.
 use mathlib.Core.Path.{_≡_, refl, sym, ap, _∙_}
-use mathlib.Core.Bool.{Bool, true, false, _&&_}
+use mathlib.Core.Bool.{_&&_}
 use mathlib.Core.List.{List, [], _∷_, _++_, append-assoc, append-nil}
-use Prim.Native.Nat.{ℕ, zero, suc, _+_, _-_, _<_, _≤_}
+use Prim.Native.Nat.{ℕ, _+_, _-_, _<_, _≤_}
 use native.Mathlib.Nat.{le-of-eq}
 use native.Mathlib.Omega.{arith}
 use lib.ListN.{length, take, drop, length-append, length-drop, drop-of-length-le}
 use lib.Seq.{take-at, drop-at, drop-drop}
 use lib.Dec.{leb, leb→le}
-use borrow.Author.Tests.{le-leb, lt-leb}
 use Rattle.rules.specs.Lists.{if_then_else_}
+use borrow.Author.Tests.{le-leb, lt-leb}
 use Rattle.rules.proofs.Lists.{by, and-r}
 use Rattle.frames.specs.declared.Frame.{Frame}
 use Rattle.frames.specs.Frames.{frameBytes, fits, writtenOf, laidOf, endOf, laidBehind, laidAll, framesBytes}

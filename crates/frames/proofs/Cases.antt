@@ -3,7 +3,7 @@
 use mathlib.Core.Path.{_≡_, refl, sym, ap, _∙_}
 use mathlib.Core.Bool.{Bool, true, false, _&&_, _||_}
 use mathlib.Core.List.{List, [], _∷_}
-use Prim.Native.Nat.{ℕ, zero, suc, _+_, _-_, _<_, _≤_}
+use Prim.Native.Nat.{ℕ, zero, suc, _+_, _-_, _<_}
 use native.Mathlib.Nat.{le-of-eq}
 use native.Mathlib.Omega.{arith}
 use lib.ListN.{length, getD, take, drop, length-drop}
@@ -16,8 +16,7 @@ use Rattle.frames.specs.declared.Item.{Item}
 use Rattle.frames.specs.declared.Head.{Head}
 use Rattle.frames.specs.declared.Head.the-variants.{Bad}
 use Rattle.frames.specs.declared.Frame.{Frame}
-use Rattle.frames.specs.declared.Front.{Front}
-use Rattle.frames.specs.Frames.{lenOf, okItem, okFrom, valid, noItem, badFrame, headOf, listed, candidateOf, noFront, taken, accept}
+use Rattle.frames.specs.Frames.{lenOf, okItem, okFrom, valid, noItem, headOf, listed, bodyAt, candidateOf, noFront, accept}
 
 -- the part of a list from a on, up to the end
 pub part : {A : Type 0} (s : List A) (a : ℕ) → take (length s - a) (drop a s) ≡ drop a s
@@ -32,7 +31,7 @@ unfolding headOf if_then_else_
 other body k a b c d e f = simp (ne-eqb k 1 a, ne-eqb k 2 b, ne-eqb k 3 c, ne-eqb k 4 d, ne-eqb k 5 e, ne-eqb k 6 f)
 
 -- the candidate from its parts
-pub candidate-of : (s body : List ℕ) (h : Head) (f : Frame) → body ≡ drop 4 s → h ≡ headOf (twoAt s 2) body → f ≡ listed h body → f ≡ candidateOf s
+pub candidate-of : (s body : List ℕ) (h : Head) (f : Frame) → body ≡ drop bodyAt s → h ≡ headOf (twoAt s 2) body → f ≡ listed h body → f ≡ candidateOf s
 unfolding candidateOf
 candidate-of s body h f b e l = l ∙ rw (e, b)
 
@@ -47,7 +46,7 @@ and-false true = refl
 and-false false = refl
 
 -- with no room for a header nothing is read
-pub short : (f : Frame) (s : List ℕ) → length s < 4 → accept f s ≡ noFront
+pub short : (f : Frame) (s : List ℕ) → length s < bodyAt → accept f s ≡ noFront
 unfolding accept if_then_else_
 short f s h = simp (lt-leb (lenOf (f .head) (f .count) + 2) (length s) (omega arith), and-false)
 

@@ -1,7 +1,7 @@
 -- Items and the operations, placed operations and reads that they mean: bytes, rules and back, each proved once over the view.
 -- Assumes nothing.
 use mathlib.Core.Path.{_≡_, refl, sym, ap, _∙_}
-use mathlib.Core.Bool.{Bool, true, false, not, _&&_, _||_}
+use mathlib.Core.Bool.{Bool, not, _&&_, _||_}
 use mathlib.Core.List.{List, [], _∷_, _++_, map}
 use mathlib.Core.Option.{Option, none, some}
 use Prim.Native.Nat.{ℕ, zero, suc, _+_, _<_, _≤_}
@@ -16,7 +16,7 @@ use Rattle.rules.proofs.Lists.{by, and, and-l, and-r, or-cases}
 use Rattle.frames.specs.declared.Item.{Item}
 use Rattle.frames.specs.declared.Shape.{Shape}
 use Rattle.frames.specs.declared.Shape.the-variants.{Operation, Placed, Read}
-use Rattle.frames.specs.Frames.{itemBytes, itemsBytes, okItem, okFrom, noItem}
+use Rattle.frames.specs.Frames.{itemBytes, itemsBytes, okItem, okFrom}
 use Rattle.frames.specs.View.{asOperation, asPlaced, asRead, Sized, CanonItem, CanonFrom, operationItem, operationItems, placedItem, seenItem, readItem, filled}
 
 -- ---- One item

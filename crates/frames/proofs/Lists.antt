@@ -1,23 +1,22 @@
 -- Lists of items, proved once over the item's shape and so over its width: reading a list and writing it undo one another,
 -- whatever follows the list. Assumes nothing.
 use mathlib.Core.Path.{_≡_, refl, sym, ap, _∙_}
-use mathlib.Core.Bool.{Bool, true, false}
 use mathlib.Core.List.{List, [], _∷_, _++_, append-assoc}
-use Prim.Native.Nat.{ℕ, zero, suc, _+_, _*_, _-_, _/_, _%_, _<_, _≤_}
+use Prim.Native.Nat.{ℕ, zero, suc, _+_, _*_, _/_, _%_, _<_, _≤_}
 use lib.Arith.{digits-div, digits-mod}
 use native.Mathlib.Nat.{zero-add, not-suc-le-zero, le-of-suc-le-suc, mod-eq-of-lt, div-div-eq-div-mul, add-zero, add-suc, suc-add, add-assoc, mul-suc, mul-zero}
 use native.Mathlib.Numerals.{add-one, towards-suc}
 use native.Mathlib.Omega.{arith}
 use lib.ListN.{length, getD, take, drop}
 use lib.Seq.{drop-cons, getD-append-add, getD-drop}
-use borrow.Author.Tests.{lt-ltb, le-ltb}
 use Rattle.rules.specs.Lists.{if_then_else_}
+use borrow.Author.Tests.{lt-ltb, le-ltb}
 use Rattle.rules.specs.Frames.{two, four, twoAt, fourAt}
 use Rattle.frames.specs.declared.Item.{Item}
 use Rattle.frames.specs.declared.Shape.{Shape}
 use Rattle.frames.specs.declared.Shape.the-variants.{Operation, Placed, Read}
 use Rattle.frames.specs.Frames.{width, itemAt, slotAt, slots, itemBytes, itemsBytes, noItem}
-use Rattle.frames.specs.View.{Sized, CanonItem, CanonFrom}
+use Rattle.frames.specs.View.{CanonItem, CanonFrom}
 use Rattle.frames.proofs.Puts.{length-item}
 
 -- ---- Numbers and their bytes

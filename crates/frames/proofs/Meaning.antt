@@ -4,10 +4,10 @@ use mathlib.Core.Path.{_≡_, refl, sym, ap, _∙_}
 use mathlib.Core.Bool.{Bool, true, false, not, _&&_}
 use mathlib.Core.List.{List, [], _∷_, _++_, map}
 use mathlib.Core.Option.{Option, none, some}
-use Prim.Native.Nat.{ℕ, zero, suc, _+_, _<_, _≤_}
+use Prim.Native.Nat.{ℕ, zero, suc, _+_, _≤_}
 use native.Mathlib.Omega.{arith}
-use lib.ListN.{length, take, length-append}
-use lib.Dec.{T, leb, eqb, leb→le, le→leb}
+use lib.ListN.{length, take}
+use lib.Dec.{T, leb, leb→le, le→leb}
 use Rattle.rules.specs.Lists.{if_then_else_, within, every}
 use Rattle.rules.specs.Transactions as R
 use Rattle.rules.specs.Frames as F
@@ -21,8 +21,8 @@ use Rattle.frames.specs.declared.Head.{Head}
 use Rattle.frames.specs.declared.Head.the-variants.{Bad, Submit, Forward, ShardAppend, ExecNotif, Executed, Response}
 use Rattle.frames.specs.declared.Frame.{Frame}
 use Rattle.frames.specs.declared.Front.{Front}
-use Rattle.frames.specs.Frames.{kindOf, fieldBytes, shapeOf, isBad, itemBytes, headerBytes, listBytes, framed, frameBytes, lenOf, okItem, okFrom, okItems, okWindow, okHead, valid, badFrame, noFront, readFront, readFrame, framesBytes}
-use Rattle.frames.specs.View.{asOperation, asPlaced, asRead, operationsOf, placedOf, readsOf, answerOf, answerTo, meant, meaning, encoded, Bytes, Canon, CanonFrom, CanonItem, CanonFrame, operationItems, placedItem, readItem, filled, recordOf}
+use Rattle.frames.specs.Frames.{kindOf, fieldBytes, shapeOf, isBad, itemBytes, headerBytes, listBytes, frameBytes, lenOf, okItem, okFrom, okItems, okWindow, okHead, valid, badFrame, noFront, readFront, readFrame, framesBytes}
+use Rattle.frames.specs.View.{asOperation, asPlaced, asRead, operationsOf, placedOf, readsOf, answerOf, answerTo, meant, meaning, encoded, Bytes, Canon, CanonFrom, CanonFrame, operationItems, placedItem, readItem, filled, recordOf}
 use Rattle.frames.proofs.Puts.{bad-bytes, frame-bytes, length-framed}
 use Rattle.frames.proofs.Round.{enough, head-of, items-of, fronts, Spells, reads, frame-back}
 use Rattle.frames.proofs.Items as I
@@ -302,6 +302,10 @@ recorded (response client number rs) t =
 -- for every frame that obeys the rules, its record is written as its bytes
 pub record-bytes : (g : F.Frame) → T (obeys g) → frameBytes (recordOf g) ≡ encode g
 record-bytes g t = let r = recorded g t in writes-mean (recordOf g) (items-of (recordOf g) (r .right)) ∙ ap encoded (r .means)
+
+-- for every frame that obeys the rules, reading what was written gives that frame
+pub record-back : (g : F.Frame) → T (obeys g) → readFrame (frameBytes (recordOf g)) ≡ recordOf g
+record-back g t = let r = recorded g t in frame-back (recordOf g) (r .right) (r .canon)
 
 -- ---- The reader
 

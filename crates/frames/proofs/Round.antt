@@ -1,12 +1,12 @@
 -- One spelling, for the code's reader and writer: what is written reads back as itself, whatever follows it, and what is read
 -- is written as the same bytes. Assumes nothing.
 use mathlib.Core.Path.{_≡_, refl, sym, ap, _∙_}
-use mathlib.Core.Bool.{Bool, true, false, not, _&&_}
+use mathlib.Core.Bool.{Bool, false, not, _&&_}
 use mathlib.Core.List.{List, [], _∷_, _++_, append-nil}
 use Prim.Native.Nat.{ℕ, zero, suc, _+_, _*_, _<_, _≤_}
 use native.Mathlib.Nat.{zero-add}
 use native.Mathlib.Omega.{arith}
-use lib.ListN.{length, getD, take, drop, length-append}
+use lib.ListN.{length, take, drop, length-append}
 use lib.Seq.{take-all, getD-drop}
 use lib.Dec.{T, leb, eqb, leb→le, le→leb, eqb→eq, eqb-refl}
 use Rattle.rules.specs.Lists.{if_then_else_, within}
@@ -19,7 +19,7 @@ use Rattle.frames.specs.declared.Head.{Head}
 use Rattle.frames.specs.declared.Head.the-variants.{Bad, Submit, Forward, ShardAppend, ExecNotif, Executed, Response}
 use Rattle.frames.specs.declared.Frame.{Frame}
 use Rattle.frames.specs.declared.Front.{Front}
-use Rattle.frames.specs.Frames.{kindOf, fieldBytes, fieldWidth, shapeOf, isBad, width, itemsBytes, listBytes, headerBytes, framed, frameBytes, lenOf, okItem, okFrom, okItems, okWindow, okHead, valid, badFrame, slots, listed, readSubmit, readForward, readShardAppend, readExecNotif, readExecuted, readResponse, headOf, candidateOf, noFront, taken, accept, readFront, readFrame}
+use Rattle.frames.specs.Frames.{kindOf, fieldBytes, fieldWidth, shapeOf, isBad, width, itemsBytes, listBytes, framed, frameBytes, lenOf, okItem, okFrom, okItems, okWindow, okHead, valid, badFrame, slots, listed, readSubmit, readForward, readShardAppend, readExecNotif, readExecuted, readResponse, headOf, bodyAt, candidateOf, noFront, taken, accept, readFront, readFrame}
 use Rattle.frames.specs.View.{CanonFrom, CanonFrame, Bytes}
 use Rattle.frames.proofs.Puts.{frame-bytes, length-frame}
 use Rattle.frames.proofs.Lists.{gets, gets-append, gets-part, gets-drop, two-at, items-bytes, slots-canon, two-back, items-back}
@@ -194,6 +194,10 @@ listed-head : (body : List ℕ) (h : Head) → listed h body .head ≡ h
 unfolding listed
 listed-head body h = refl
 
+-- length, header and body are the front of the bytes
+front-parts : (s : List ℕ) (m : ℕ) → gets 0 2 0 s ++ (gets 0 2 2 s ++ gets 0 m bodyAt s) ≡ gets 0 (2 + (2 + m)) 0 s
+front-parts s m = ap (λ (l : List ℕ). gets 0 2 0 s ++ l) (gets-append 0 2 m 2 s) ∙ gets-append 0 2 (2 + m) 0 s
+
 module _ (s : List ℕ) (b : Bytes s) where
   bytes-from : (n : ℕ) → Bytes (drop n s)
   bytes-from n i = rw getD-drop (b (n + i))
@@ -202,10 +206,10 @@ module _ (s : List ℕ) (b : Bytes s) where
   Accepted f = T (taken f s) → Begins s (record { frame = f; end = lenOf (f .head) (f .count) + 2 })
 
   -- one frame, whatever its kind
-  accepted : (h : Head) → isBad h ≡ false → twoAt s 2 ≡ kindOf h → fieldBytes h ≡ gets 0 (fieldWidth h) 0 (drop 4 s) → Accepted (listed h (drop 4 s))
+  accepted : (h : Head) → isBad h ≡ false → twoAt s 2 ≡ kindOf h → fieldBytes h ≡ gets 0 (fieldWidth h) 0 (drop bodyAt s) → Accepted (listed h (drop bodyAt s))
   unfolding listed
   accepted h g k e t =
-      let f : Frame = listed h (drop 4 s) in
+      let f : Frame = listed h (drop bodyAt s) in
       let n : ℕ = lenOf h (f .count) in
       let u = and-l (valid f && eqb (twoAt s 0) n) (leb (n + 2) (length s)) t in
       let v = and-l (valid f) (eqb (twoAt s 0) n) u in
@@ -214,32 +218,31 @@ module _ (s : List ℕ) (b : Bytes s) where
       let i : n + 2 ≤ length s = leb→le (n + 2) (length s) (and-r (valid f && eqb (twoAt s 0) n) (leb (n + 2) (length s)) t) in
       let p : two n ≡ gets 0 2 0 s = ap two (sym (eqb→eq (twoAt s 0) n (and-r (valid f) (eqb (twoAt s 0) n) u))) ∙ two-at s b 0 in
       let q : two (kindOf h) ≡ gets 0 2 2 s = ap two (sym k) ∙ two-at s b 2 in
-      let r : fieldBytes h ++ listBytes (shapeOf h) (f .count) (f .items) ≡ gets 0 m 4 s = body-bytes (drop 4 s) (bytes-from 4) h e c ∙ gets-drop 0 m 4 0 s in
-      let x : framed n h (f .count) (f .items) ≡ gets 0 (2 + (2 + m)) 0 s
-      = (λ j. p j ++ (q j ++ r j)) ∙ ap (λ (l : List ℕ). gets 0 2 0 s ++ l) (gets-append 0 2 m 2 s) ∙ gets-append 0 2 (2 + m) 0 s in
+      let r : fieldBytes h ++ listBytes (shapeOf h) (f .count) (f .items) ≡ gets 0 m bodyAt s = body-bytes (drop bodyAt s) (bytes-from bodyAt) h e c ∙ gets-drop 0 m bodyAt 0 s in
+      let x : framed n h (f .count) (f .items) ≡ gets 0 2 0 s ++ (gets 0 2 2 s ++ gets 0 m bodyAt s) = λ j. p j ++ (q j ++ r j) in
       let y : 2 + (2 + m) ≡ n + 2 = omega arith in
       record {
         right = v;
-        canon = listed-canon (drop 4 s) (bytes-from 4) h;
-        bytes = frame-bytes f g ∙ x ∙ gets-part 0 (2 + (2 + m)) 0 s (omega arith) ∙ ap (λ (k : ℕ). take k s) y;
+        canon = listed-canon (drop bodyAt s) (bytes-from bodyAt) h;
+        bytes = frame-bytes f g ∙ x ∙ front-parts s m ∙ gets-part 0 (2 + (2 + m)) 0 s (omega arith) ∙ ap (λ (k : ℕ). take k s) y;
         inside = i;
       }
 
   -- a field of two bytes of the body
-  field : (i : ℕ) → two (twoAt (drop 4 s) i) ≡ gets 0 2 i (drop 4 s)
-  field i = two-at (drop 4 s) (bytes-from 4) i
+  field : (i : ℕ) → two (twoAt (drop bodyAt s) i) ≡ gets 0 2 i (drop bodyAt s)
+  field i = two-at (drop bodyAt s) (bytes-from bodyAt) i
 
   abbrev Read-as : Head → Type 0
-  Read-as h = Accepted (listed h (drop 4 s))
+  Read-as h = Accepted (listed h (drop bodyAt s))
 
   bad : Read-as Bad
   unfolding listed valid
   bad t = absurd t
 
-  by-kind : (k : ℕ) → twoAt s 2 ≡ k → Read-as (headOf k (drop 4 s))
+  by-kind : (k : ℕ) → twoAt s 2 ≡ k → Read-as (headOf k (drop bodyAt s))
   unfolding headOf
   by-kind k e =
-      let o : List ℕ = drop 4 s in
+      let o : List ℕ = drop bodyAt s in
       by Read-as (eqb k 1) (λ q. accepted (readSubmit o) refl (e ∙ eqb→eq k 1 q) (λ j. byteAt o 0 ∷ (field 1 j ++ field 3 j))) λ q.
       by Read-as (eqb k 2) (λ q. accepted (readForward o) refl (e ∙ eqb→eq k 2 q) (λ j. field 0 j ++ (byteAt o 2 ∷ (field 3 j ++ field 5 j)))) λ q.
       by Read-as (eqb k 3) (λ q. accepted (readShardAppend o) refl (e ∙ eqb→eq k 3 q) (λ j. byteAt o 0 ∷ (field 1 j ++ field 3 j))) λ q.

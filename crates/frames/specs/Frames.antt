@@ -7,7 +7,7 @@ use lib.ListN.{length, take, drop}
 use lib.Seq.{sets}
 use mathlib.Core.Path.{_≡_}
 use Rattle.rules.specs.Lists.{if_then_else_, _<?_, _≤?_, _=?_, within}
-use Rattle.rules.specs.Frames.{two, four, byteAt, twoAt, fourAt, headerWidth, backToBack}
+use Rattle.rules.specs.Frames.{okClient, okNumber, okInd, two, four, byteAt, twoAt, fourAt, headerWidth, backToBack}
 use Rattle.frames.specs.declared.Item.{Item}
 use Rattle.frames.specs.declared.Shape.{Shape}
 use Rattle.frames.specs.declared.Shape.the-variants.{Operation, Placed, Read}
@@ -122,17 +122,17 @@ okItems count xs = okFrom 0 count xs
 
 -- "ack ≤ number, and number − ack ≤ 7"
 abbrev pub okWindow : ℕ → ℕ → Bool
-okWindow number ack = number ≤? 65534 && ack ≤? number && number ≤? ack + 7
+okWindow number ack = okNumber number && ack ≤? number && number ≤? ack + 7
 
 -- the fields, and "c is 1..4" at its lower end
 abbrev pub okHead : Head → ℕ → Bool
 okHead Bad count = false
-okHead (Submit client number ack) count = 1 ≤? count && client ≤? 15 && okWindow number ack
-okHead (Forward log-number client number ack) count = 1 ≤? count && log-number ≤? 255 && client ≤? 15 && okWindow number ack
-okHead (ShardAppend shard log-number sn) count = 1 ≤? count && within 1 8 shard && log-number ≤? 255 && within 1 256 sn
-okHead (ExecNotif shard log-number) count = within 1 8 shard && log-number ≤? 255
-okHead (Executed log-number) count = log-number ≤? 255
-okHead (Response client number) count = client ≤? 15 && number ≤? 65534
+okHead (Submit client number ack) count = 1 ≤? count && okClient client && okWindow number ack
+okHead (Forward log-number client number ack) count = 1 ≤? count && okInd log-number && okClient client && okWindow number ack
+okHead (ShardAppend shard log-number sn) count = 1 ≤? count && within 1 8 shard && okInd log-number && within 1 256 sn
+okHead (ExecNotif shard log-number) count = within 1 8 shard && okInd log-number
+okHead (Executed log-number) count = okInd log-number
+okHead (Response client number) count = okClient client && okNumber number
 
 unfoldable pub valid : Frame → Bool
 valid f = okHead (f .head) (f .count) && okItems (f .count) (f .items)
@@ -200,9 +200,13 @@ listed head body =
       items = slots (shapeOf head) 0 4 (byteAt body (fieldWidth head)) body (fieldWidth head + 1);
     }
 
+-- the body stands behind length and header
+abbrev pub bodyAt : ℕ
+bodyAt = 2 + headerWidth
+
 -- the only frame that some bytes can begin with
 unfoldable pub candidateOf : List ℕ → Frame
-candidateOf s = listed (headOf (twoAt s 2) (drop (2 + headerWidth) s)) (drop (2 + headerWidth) s)
+candidateOf s = listed (headOf (twoAt s 2) (drop bodyAt s)) (drop bodyAt s)
 
 -- nothing was read
 unfoldable pub noFront : Front

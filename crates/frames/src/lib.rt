@@ -1,12 +1,11 @@
 // Frames of the board chain, read from a slice and written into an out area. Nothing is allocated, and each byte is looked at a bounded number of times.
 ghost use mathlib.Core.Path.{_≡_};
-ghost use mathlib.Core.Bool.{Bool, true, false};
+ghost use mathlib.Core.Bool.{false};
 ghost use mathlib.Core.List.{[], _∷_, _++_};
 ghost use Prim.Native.Nat.{_+_, _*_, _<_, _≤_};
-ghost use lib.ListN.{length, take, drop, set};
-ghost use lib.Seq.{sets};
+ghost use lib.ListN.{length, set};
 ghost use Rattle.rules.specs.Frames.{two, four, byteAt, twoAt, fourAt, decode};
-ghost use Rattle.frames.specs.Frames.{kindOf, fieldBytes, fieldWidth, shapeOf, width, itemBytes, slotBytes, listBytes, headerBytes, lenOf, okItem, okItems, okWindow, okHead, valid, noItem, badFrame, itemAt, slotAt, slots, readSubmit, readForward, readShardAppend, readExecNotif, readExecuted, readResponse, headOf, listed, candidateOf, noFront, accept, readFront, readFrame, Put, writtenOf, laidOf, endOf, laidBehind};
+ghost use Rattle.frames.specs.Frames.{kindOf, fieldBytes, fieldWidth, shapeOf, width, itemBytes, slotBytes, listBytes, headerBytes, lenOf, okItem, okItems, okWindow, okHead, valid, noItem, badFrame, itemAt, slotAt, slots, readSubmit, readForward, readShardAppend, readExecNotif, readExecuted, readResponse, headOf, listed, bodyAt, candidateOf, noFront, accept, readFront, readFrame, Put, writtenOf, laidOf, endOf, laidBehind};
 ghost use Rattle.frames.specs.View.{answerOf, answerTo, meaning};
 
 // The place of an entry in the log: "log number 0..255", two bytes in a frame.
@@ -78,6 +77,21 @@ const LENGTH: usize = 2;
 
 // What stands between the length and the body: the kind. Every length and place follows from this width.
 const HEADER: usize = 2;
+
+// The last value of each field that has fewer than its bytes could hold: "Sizes".
+const LAST_CLIENT: u8 = 15;
+
+const LAST_NUMBER: u16 = 65534;
+
+const LAST_LOG_NUMBER: LogNumber = 255;
+
+const LAST_SHARD: u8 = 8;
+
+const LAST_SN: u16 = 256;
+
+const LAST_PLACE: u8 = 3;
+
+// A bound that a private function asks of a place only keeps sums of places from wrapping.
 
 // ---- Numbers in a slice; past the end a byte counts as 0
 
@@ -238,7 +252,7 @@ fn len_of(head: Head, count: u8) -> usize
 fn item_ok(x: Item) -> bool
     ensures { λ r. ⌜ r ≡ okItem x ⌝ }
 {
-    (x.place <= 3) & (x.code <= 1) & ((1 <= x.code) | (x.value == 0))
+    (x.place <= LAST_PLACE) & (x.code <= 1) & ((1 <= x.code) | (x.value == 0))
 }
 
 // The first `count` of four items: each is right, and places rise strictly.
@@ -261,7 +275,7 @@ fn window_ok(number: u16, ack: u16) -> bool
 {
     let high = number as u32;
     let low = ack as u32;
-    (number <= 65534) & (ack <= number) & (high <= low + 7)
+    (number <= LAST_NUMBER) & (ack <= number) & (high <= low + 7)
 }
 
 fn head_ok(head: Head, count: u8) -> bool
@@ -273,25 +287,28 @@ fn head_ok(head: Head, count: u8) -> bool
             client,
             number,
             ack,
-        } => (1 <= count) & (client <= 15) & window_ok(number, ack),
+        } => (1 <= count) & (client <= LAST_CLIENT) & window_ok(number, ack),
         Head::Forward {
             log_number,
             client,
             number,
             ack,
-        } => (1 <= count) & (log_number <= 255) & (client <= 15) & window_ok(number, ack),
+        } => (1 <= count)
+            & (log_number <= LAST_LOG_NUMBER)
+            & (client <= LAST_CLIENT)
+            & window_ok(number, ack),
         Head::ShardAppend {
             shard,
             log_number,
             sn,
         } => (1 <= count)
-            & ((1 <= shard) & (shard <= 8))
-            & (log_number <= 255)
-            & ((1 <= sn) & (sn <= 256)),
-        Head::ExecNotif { shard, log_number } => ((1 <= shard) & (shard <= 8))
-            & (log_number <= 255),
-        Head::Executed { log_number } => log_number <= 255,
-        Head::Response { client, number } => (client <= 15) & (number <= 65534),
+            & ((1 <= shard) & (shard <= LAST_SHARD))
+            & (log_number <= LAST_LOG_NUMBER)
+            & ((1 <= sn) & (sn <= LAST_SN)),
+        Head::ExecNotif { shard, log_number } => ((1 <= shard) & (shard <= LAST_SHARD))
+            & (log_number <= LAST_LOG_NUMBER),
+        Head::Executed { log_number } => log_number <= LAST_LOG_NUMBER,
+        Head::Response { client, number } => (client <= LAST_CLIENT) & (number <= LAST_NUMBER),
     }
 }
 
@@ -483,7 +500,7 @@ fn head_of(s: &[u8], body: &[u8]) -> Head
 
 // The only frame that the slice can begin with.
 fn candidate(s: &[u8]) -> Frame
-    requires { ⌜ 4 ≤ length (now s) ⌝ }
+    requires { ⌜ bodyAt ≤ length (now s) ⌝ }
     ensures { λ r. ⌜ r ≡ candidateOf (now (s .entry)) ⌝ }
 {
     let start = LENGTH + HEADER;
@@ -507,7 +524,7 @@ fn accepted(f: Frame, s: &[u8]) -> Front
     }
 }
 
-// The frame with which the slice begins and where it ends, whatever follows it.
+// The frame with which the slice begins and where it ends, whatever follows it: laws `front-back` and `front-means`.
 pub fn read_front(s: &[u8]) -> Front
     ensures { λ r. ⌜ r ≡ readFront (now (s .entry)) ⌝ }
 {
@@ -519,7 +536,8 @@ pub fn read_front(s: &[u8]) -> Front
     accepted(f, s)
 }
 
-// The frame that the slice is, or the refusal: "Nothing may follow a frame." Its number and its values are those of the rules' reading.
+// The frame that the slice is, or the refusal: "Nothing may follow a frame." Its number and its values are those of the rules' reading, and
+// it is written as the bytes that it was read from: law `bytes-back`.
 pub fn read_frame(s: &[u8]) -> Frame
     ensures { λ r. ⌜ r ≡ readFrame (now (s .entry)) ⌝ }
     ensures { λ r. ⌜ (answerOf (r .head) ≡ answerTo (decode (now (s .entry)))) × (meaning r ≡ decode (now (s .entry))) ⌝ }
@@ -739,7 +757,8 @@ fn put_fields(out: &mut [u8], at: usize, head: Head) -> usize
 }
 
 // Writes the frame's bytes from the first byte of the out area on and returns how many these are. A refused frame has no bytes.
-// Where the frame has more than four items or the room is too small it writes nothing and returns 0.
+// Where the frame has more than four items or the room is too small it writes nothing and returns 0. The bytes are the rules' own and are
+// read as the same frame: laws `writes-mean`, `record-bytes` and `frame-back`; what a caller with room gets: `writes` and `lays`.
 pub fn write_frame(f: Frame, out: &mut [u8]) -> usize
     ensures { λ r. ⌜ r ≡ writtenOf f (length (now (out .entry))) ⌝ }
     ensures { λ r. ⌜ now (out .exit) ≡ laidOf f (now (out .entry)) ⌝ }

@@ -1,3 +1,4 @@
+-- The test that the code computes is the one of `accept`, and decides as it does.
 use mathlib.Core.Path.{_∙_, sym}
 use mathlib.Core.Bool.{true, false}
 use Rattle.rules.specs.Lists.{if_then_else_}

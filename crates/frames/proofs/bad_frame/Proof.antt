@@ -1,3 +1,4 @@
+-- The record of the refusal, element by element.
 use Rattle.frames.specs.Frames.{badFrame}
 use borrow.Author.Needs.{needs}
 use Rattle.frames.proofs.bad_frame.Statement.{statement}

@@ -1,3 +1,4 @@
+-- Past the end a byte counts as 0.
 use mathlib.Core.Path.{sym}
 use lib.ListN.{List·getD-eq-default}
 use borrow.Author.Needs.{needs}

@@ -1,3 +1,4 @@
+-- Fields and list are read from the part of the slice behind the header.
 use Rattle.frames.proofs.Cases.{candidate-of, part}
 use borrow.Author.Needs.{needs}
 use Rattle.frames.proofs.candidate.Statement.{statement}

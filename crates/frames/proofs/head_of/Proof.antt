@@ -1,3 +1,4 @@
+-- Each kind goes to its reader, every other value to the refusal.
 use mathlib.Core.Path.{_∙_, sym, refl}
 use Rattle.rules.specs.Lists.{if_then_else_}
 use Rattle.frames.specs.Frames.{headOf}

@@ -1,3 +1,4 @@
+-- The fields of each kind are tested as `okHead` says.
 use borrow.Author.Needs.{needs}
 use Rattle.frames.proofs.head_ok.Statement.{statement}
 use Rattle.frames.proofs.head_ok.Tie as tie

@@ -1,3 +1,4 @@
+-- Four slots, each an item's width behind the one before.
 use borrow.Author.Needs.{needs}
 use Rattle.frames.proofs.items_at.Statement.{statement}
 use Rattle.frames.proofs.items_at.Tie as tie

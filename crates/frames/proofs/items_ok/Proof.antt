@@ -1,7 +1,6 @@
+-- The test of the four slots, one by one, is the test of the list.
 use mathlib.Core.Path.{_≡_, sym, _∙_, ap}
-use mathlib.Core.List.{List, [], _∷_}
 use lib.ListN.{length}
-use Rattle.frames.specs.declared.Item.{Item}
 use Rattle.frames.specs.Frames.{okFrom}
 use Rattle.frames.proofs.Cases.{four-of, four-ok}
 use borrow.Author.Needs.{needs}

@@ -1,6 +1,7 @@
+-- The length is header, fields, count and items, and stays small.
 use native.Mathlib.Nat.{mul-le-mul}
 use native.Mathlib.Omega.{arith}
-use Prim.Native.Nat.{_≤_, _*_}
+use Prim.Native.Nat.{_≤_}
 use borrow.Author.Needs.{needs}
 use Rattle.frames.proofs.len_of.Statement.{statement}
 use Rattle.frames.proofs.len_of.Tie as tie

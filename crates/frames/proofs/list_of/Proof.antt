@@ -1,3 +1,4 @@
+-- The list stands behind the fields.
 use Rattle.frames.specs.Frames.{listed}
 use borrow.Author.Needs.{needs}
 use Rattle.frames.proofs.list_of.Statement.{statement}

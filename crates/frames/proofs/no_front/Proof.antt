@@ -1,3 +1,4 @@
+-- The refusal ends where it begins.
 use Rattle.frames.specs.Frames.{noFront}
 use borrow.Author.Needs.{needs}
 use Rattle.frames.proofs.no_front.Statement.{statement}

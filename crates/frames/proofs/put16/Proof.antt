@@ -1,3 +1,4 @@
+-- Two bytes, one behind the other.
 use Rattle.frames.proofs.Puts.{behind}
 use borrow.Author.Needs.{needs}
 use Rattle.frames.proofs.put16.Statement.{statement}

@@ -1,3 +1,4 @@
+-- Two halves, one behind the other.
 use Rattle.frames.proofs.Puts.{behind, low-half}
 use borrow.Author.Needs.{needs}
 use Rattle.frames.proofs.put32.Statement.{statement}

@@ -1,3 +1,4 @@
+-- One byte, and the place behind it.
 use mathlib.Core.Path.{refl}
 use borrow.Author.Needs.{needs}
 use Rattle.frames.proofs.put8.Statement.{statement}

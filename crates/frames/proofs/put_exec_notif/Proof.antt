@@ -1,3 +1,4 @@
+-- The fields, one behind the other.
 use Rattle.frames.proofs.Puts.{behind}
 use borrow.Author.Needs.{needs}
 use Rattle.frames.proofs.put_exec_notif.Statement.{statement}

@@ -1,3 +1,4 @@
+-- Each kind has its writer.
 use Rattle.frames.proofs.Puts.{none}
 use borrow.Author.Needs.{needs}
 use Rattle.frames.proofs.put_fields.Statement.{statement}

@@ -1,3 +1,4 @@
+-- The log number, and then the fields of a Submit.
 use Rattle.frames.proofs.Puts.{behind}
 use borrow.Author.Needs.{needs}
 use Rattle.frames.proofs.put_forward.Statement.{statement}

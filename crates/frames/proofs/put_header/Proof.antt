@@ -1,3 +1,4 @@
+-- The length and then the kind.
 use Rattle.frames.proofs.Puts.{behind}
 use borrow.Author.Needs.{needs}
 use Rattle.frames.proofs.put_header.Statement.{statement}

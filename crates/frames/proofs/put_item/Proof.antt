@@ -1,3 +1,4 @@
+-- Each shape has its writer.
 use borrow.Author.Needs.{needs}
 use Rattle.frames.proofs.put_item.Statement.{statement}
 use Rattle.frames.proofs.put_item.Tie as tie

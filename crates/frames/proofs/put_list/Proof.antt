@@ -1,3 +1,4 @@
+-- The count and four slots, one behind the other, are the list.
 use mathlib.Core.Path.{_≡_}
 use lib.ListN.{length}
 use Rattle.frames.proofs.Puts.{behind, put-four}

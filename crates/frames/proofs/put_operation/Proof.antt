@@ -1,3 +1,4 @@
+-- Code, key and value, one behind the other.
 use Rattle.frames.proofs.Puts.{behind}
 use borrow.Author.Needs.{needs}
 use Rattle.frames.proofs.put_operation.Statement.{statement}

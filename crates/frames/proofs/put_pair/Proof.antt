@@ -1,3 +1,4 @@
+-- Two slots, one behind the other.
 use native.Mathlib.Omega.{arith}
 use Rattle.frames.proofs.Puts.{behind}
 use borrow.Author.Needs.{needs}

@@ -1,3 +1,4 @@
+-- The place and then the operation.
 use Rattle.frames.proofs.Puts.{behind}
 use borrow.Author.Needs.{needs}
 use Rattle.frames.proofs.put_placed.Statement.{statement}

@@ -1,3 +1,4 @@
+-- Place, present and value, one behind the other.
 use Rattle.frames.proofs.Puts.{behind}
 use borrow.Author.Needs.{needs}
 use Rattle.frames.proofs.put_read.Statement.{statement}

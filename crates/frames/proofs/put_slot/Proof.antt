@@ -1,3 +1,4 @@
+-- An item below the count is written, another is not.
 use native.Mathlib.Omega.{arith}
 use Rattle.rules.specs.Lists.{if_then_else_}
 use borrow.Author.Tests.{lt-ltb, le-ltb}

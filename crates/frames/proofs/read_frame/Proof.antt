@@ -1,8 +1,9 @@
+-- A front that nothing follows is the frame; what it means is the law `promised`.
 use mathlib.Core.Path.{_≡_}
 use native.Mathlib.Omega.{arith}
-use borrow.Author.Tests.{eq-eqb, ne-eqb}
 use Rattle.rules.specs.Lists.{if_then_else_}
-use Rattle.frames.specs.Frames.{badFrame, readFront, readFrame}
+use borrow.Author.Tests.{eq-eqb, ne-eqb}
+use Rattle.frames.specs.Frames.{readFrame}
 use Rattle.frames.proofs.Meaning.{promised}
 use borrow.Author.Needs.{needs}
 use Rattle.frames.proofs.read_frame.Statement.{statement}

@@ -1,3 +1,4 @@
+-- With no room for a header nothing is read; otherwise the candidate is tested.
 use mathlib.Core.Path.{_∙_, sym, ap}
 use Rattle.frames.specs.declared.Frame.{Frame}
 use Rattle.frames.specs.Frames.{readFront, accept}

@@ -1,3 +1,4 @@
+-- An item below the count is read, another slot is empty.
 use Rattle.rules.specs.Lists.{if_then_else_}
 use borrow.Author.Tests.{lt-ltb, le-ltb}
 use borrow.Author.Needs.{needs}

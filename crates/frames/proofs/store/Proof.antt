@@ -1,3 +1,4 @@
+-- Where the slice does not reach nothing is stored.
 use mathlib.Core.Path.{sym}
 use lib.Seq.{set-out}
 use borrow.Author.Needs.{needs}

@@ -1,3 +1,4 @@
+-- The part behind `at` is written as a frame is, and the rest stands.
 use native.Mathlib.Omega.{arith}
 use Rattle.frames.proofs.Behind.{refused, laid, end-small}
 use borrow.Author.Needs.{needs}

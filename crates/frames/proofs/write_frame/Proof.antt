@@ -1,4 +1,5 @@
-use mathlib.Core.Path.{_≡_, refl}
+-- Refused, nothing is written; otherwise header, fields and list stand one behind the other.
+use mathlib.Core.Path.{_≡_}
 use lib.ListN.{length, length-map}
 use native.Mathlib.Omega.{arith}
 use Rattle.frames.proofs.Puts.{behind, fields-small, room, wrote, wrote-refused}
