@@ -25,7 +25,8 @@ use Rattle.session.specs.declared.Operations.{Operations}
 use Rattle.session.specs.Model.{noAsked, keptItem, itemAt, itemsOf, okAsked}
 use Rattle.session.specs.View.{viewAsked, firsts, askedOf, EachSized, Sized}
 
-either : {C : Type 0} (b : Bool) → (T b → C) → (T (not b) → C) → C
+-- a test holds or not
+pub either : {C : Type 0} (b : Bool) → (T b → C) → (T (not b) → C) → C
 either true f g = f tt
 either false f g = g tt
 

@@ -35,11 +35,7 @@ use Rattle.session.specs.declared.Operations.{Operations}
 use Rattle.session.specs.declared.Session.{Session}
 use Rattle.session.specs.Model.{startedOf, okAsked, itemsOf, submitFrame, Call, refusal, sending, givenOf, laidWith, given, laid, withWindow, taking, invoking, invokedOf, invokeOut, retrying, retriedOf, retryOut}
 use Rattle.session.specs.View.{viewSession, Held, askedOf, Sized, viewMeaning, viewCall, StartMeans, SubmitMeans, InvokeMeans, RetryMeans}
-use Rattle.session.proofs.Lists.{Asks, asks, not-asked}
-
-either : {C : Type 0} (b : Bool) → (T b → C) → (T (not b) → C) → C
-either true f g = f tt
-either false f g = g tt
+use Rattle.session.proofs.Lists.{either, Asks, asks, not-asked}
 
 held-session : (s : Session) → Held s → SessionKept (viewSession s)
 unfolding viewSession
@@ -71,14 +67,14 @@ start-means client =
 -- ---- A frame that is sent
 
 -- the record of a frame that obeys the rules
-record SendsOne (out : ℕ) (f : Frame) : Type 0 where
-  frame : F.Frame
-  is : f ≡ recordOf frame
-  rules : T (obeys frame)
-  few : f .count ≤ 4
-  room : 68 ≤ out
+pub record SendsOne (out : ℕ) (f : Frame) : Type 0 where
+  pub frame : F.Frame
+  pub is : f ≡ recordOf frame
+  pub rules : T (obeys frame)
+  pub few : f .count ≤ 4
+  pub room : 68 ≤ out
 
-Sends : ℕ → Option Frame → Type 0
+abbrev pub Sends : ℕ → Option Frame → Type 0
 Sends out none = Unit {0}
 Sends out (some f) = SendsOne out f
 
@@ -98,22 +94,22 @@ refusal-means : (s : Session) (answer : ℕ) → viewCall (refusal s answer) ≡
 unfolding viewCall refusal refuse
 refusal-means s answer = refl
 
--- a call of the code and an outcome of the rules
-record CallMeans (out n : ℕ) (c : Call) (o : Outcome R.Session) : Type 0 where
-  means : viewCall c ≡ o
-  number : c .number ≡ (if eqb (o .answer) done then n else 0)
-  held : Held (c .session)
-  sends : Sends out (c .frame)
+-- a call of the code means an outcome of the rules, frames and all: what is sent is the record of the frame that the rules send
+pub record CallMeans (out n : ℕ) (c : Call) (o : Outcome R.Session) : Type 0 where
+  pub means : viewCall c ≡ o
+  pub number : c .number ≡ (if eqb (o .answer) done then n else 0)
+  pub held : Held (c .session)
+  pub sends : Sends out (c .frame)
 
 refused-means : (s : Session) → Held s → (out n answer : ℕ) → T (not (eqb answer done)) → (c : Call) (o : Outcome R.Session) → c ≡ refusal s answer →
     o ≡ refuse answer (viewSession s) → CallMeans out n c o
-unfolding refusal refuse Sends
+unfolding refusal refuse
 refused-means s h out n answer not-done c o e d =
     rw (e, d) (record { means = refusal-means s answer; number = sym (if-no (eqb answer done) n 0 not-done); held = h; sends = tt })
 
 sent-means : (s : Session) → Held s → (out number : ℕ) (os : List Operation) → T (okOperations os) → (c : Call) (o : Outcome R.Session) →
     c ≡ sending s number (length os) (filled 4 (operationItems 0 os)) → o ≡ taken (viewSession s) (R.submitOf (viewSession s) number os ∷ []) → T (every obeys (o .frames)) → 68 ≤ out → CallMeans out number c o
-unfolding sending taken Sends submitFrame
+unfolding sending taken submitFrame
 sent-means s h out number os ok c o e d good room =
     let g : F.Frame = R.submitOf (viewSession s) number os in
     let t : T (obeys g) = and-l (obeys g) true (rw d at good) in
@@ -208,7 +204,7 @@ same-means : (out n : ℕ) (c d : Call) (o p : Outcome R.Session) → c ≡ d �
 same-means out n c d o p e q m = rw (e, q) m
 
 module _ (s : Session) (ops : Operations) (out : ℕ) (h : Held s) (z : Sized ops) where
-  invoking-means : CallMeans out (s .window .next) (invoking s ops out) (R.invoke (viewSession s) (askedOf ops) out)
+  pub invoking-means : CallMeans out (s .window .next) (invoking s ops out) (R.invoke (viewSession s) (askedOf ops) out)
   unfolding invoking R.invoke viewSession
   invoking-means =
       let good = invoke-good (viewSession s) (askedOf ops) out (held-session s h) .frames in
@@ -260,7 +256,7 @@ unfolding R.sendAgain
 rule-none s number = refl
 
 module _ (s : Session) (number out : ℕ) (h : Held s) where
-  retrying-means : CallMeans out number (retrying s number out) (R.retry (viewSession s) number out)
+  pub retrying-means : CallMeans out number (retrying s number out) (R.retry (viewSession s) number out)
   unfolding retrying R.retry viewSession
   retrying-means =
       let good = retry-good (viewSession s) number out (held-session s h) .frames in
@@ -329,7 +325,7 @@ given-some s answer number n f out o e k h x few =
     })
 
 given-means : (c : Call) (n : ℕ) (out : List ℕ) (o : Outcome R.Session) → CallMeans (length out) n c o → length (sentBytes (o .frames)) ≤ 68 → SubmitMeans o n out (given c out) (laid c out)
-unfolding given laid Sends
+unfolding given laid
 given-means c n out o m few = go (c .frame) (m .sends) (m .means)
   where
     go : (f : Option Frame) → Sends (length out) f → viewCall (record { answer = c .answer; session = c .session; number = c .number; frame = f }) ≡ o →

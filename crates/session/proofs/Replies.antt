@@ -1,7 +1,7 @@
 -- Under Held the step on a Response means the rules' step on the session that is meant, and leaves a session that is held.
 -- Assumes nothing.
 use mathlib.Core.Path.{_≡_, refl, sym, ap, _∙_}
-use mathlib.Core.Bool.{Bool, true, false, not}
+use mathlib.Core.Bool.{not}
 use mathlib.Core.Logic.{⊎-elim}
 use mathlib.Core.List.{List}
 use mathlib.Core.Option.{Option, none, some}
@@ -34,12 +34,9 @@ use Rattle.session.specs.declared.Session.{Session}
 use Rattle.session.specs.declared.Responded.{Responded}
 use Rattle.session.specs.Model.{withWindow, declinedOf, heardOf, byHead, respondedOf}
 use Rattle.session.specs.View.{viewSession, Held, viewReply, ReplyMeans, ResponseMeans}
+use Rattle.session.proofs.Lists.{either}
 use Rattle.session.proofs.Fits.{fits-means}
 use Rattle.session.proofs.Means.{slot-count}
-
-either : {C : Type 0} (b : Bool) → (T b → C) → (T (not b) → C) → C
-either true f g = f tt
-either false f g = g tt
 
 -- the code's reply beside the rules'
 abbrev Hears : Responded → R.Reply → Type 0
