@@ -13,7 +13,7 @@ const USAGE: &str = "usage: lockstep [--runs N] [--seed S]
        lockstep --run R [--seed S] [--write FILE]";
 const OPTIONS: [&str; 4] = ["--runs", "--seed", "--run", "--write"];
 /// The fixed set of runs.
-const RUNS: u64 = 160;
+const RUNS: u64 = 128;
 const SEED: u64 = 1;
 
 /// Plays a set of runs and counts them.
