@@ -2,3 +2,4 @@ pub mod Parts
 pub mod Digits
 pub mod Example
 pub mod Worth
+pub mod Short
