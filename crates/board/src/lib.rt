@@ -20,6 +20,7 @@ use send::Sent;
 // "Its log has entries ..", the first len of log: an entry's log number is its place. names and touched are columns of the log, each
 // entry's client and number in one word and its shards as a mask: find and count look at these and not at the whole log. Per client:
 // next, which is high + 1, and floor. Per shard: its queue. What lies past len, or belongs to no client or shard, is zero.
+#[repr(C)]
 pub struct Board {
     pub log: [Entry; 256],
     pub len: LogNumber,

@@ -9,6 +9,7 @@ use frames::Item;
 
 // An entry of the log. items: the operations, each at its place. reads: slot p has what the get at place p saw, once its
 // shard was heard from; a slot without a read is zero. So reads stand by rising place, whichever answer came first.
+#[repr(C)]
 pub struct Entry {
     pub client: u8,
     pub number: u16,

@@ -13,6 +13,7 @@ pub type LogNumber = u16;
 
 // One item of a list. An operation: code 0 get or 1 put, its place is its index. A placed operation: the same with its own place.
 // A read: code is `present`, 0 or 1, and the key is 0.
+#[repr(C)]
 pub struct Item {
     pub place: u8,
     pub code: u8,

@@ -7,6 +7,7 @@ use frames::LogNumber;
 
 // "a first-in first-out queue of at most 256 log numbers, and the last number taken from it": the first len of numbers
 // wait, the slots behind them are zero, and taken is one more than the last number taken, 0 for none.
+#[repr(C)]
 pub struct Queue {
     pub numbers: [LogNumber; 256],
     pub len: usize,

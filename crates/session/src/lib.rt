@@ -13,6 +13,7 @@ use frames::Item;
 use window::Window;
 
 // An operation as it is asked for: "0 get or 1 put (1), key (1), value (4; 0 for get)".
+#[repr(C)]
 pub struct Asked {
     pub code: u8,
     pub key: u8,
@@ -20,12 +21,14 @@ pub struct Asked {
 }
 
 // The list handed to invoke: the first count operations. What lies behind them is neither looked at nor kept.
+#[repr(C)]
 pub struct Operations {
     pub count: u8,
     pub items: [Asked; 4],
 }
 
 // "It holds the next number and each outstanding number with its operations"; the client, and whether the start was taken.
+#[repr(C)]
 pub struct Session {
     pub window: Window,
     pub client: u8,
@@ -38,6 +41,7 @@ pub struct Started {
 }
 
 // The answer of invoke and retry: the number that Submit carries, and the counts of frames and bytes. Of a refusal all but the answer is 0.
+#[repr(C)]
 pub struct Sent {
     pub answer: u8,
     pub number: u16,
@@ -51,6 +55,7 @@ pub struct Submitted {
 }
 
 // The answer of a Response step: the number answered, and its reads, the first count of them. Of a refusal all but the answer is 0.
+#[repr(C)]
 pub struct Reply {
     pub answer: u8,
     pub number: u16,

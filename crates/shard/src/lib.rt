@@ -16,6 +16,7 @@ const LEAST_OUT: usize = 68;
 
 // What the group has for a key: the value last put and the log number that put it. A key never put is absent, and its cell
 // is zero. In this order of fields a cell is 8 bytes.
+#[repr(C)]
 pub struct Cell {
     pub value: u32,
     pub log_number: LogNumber,
@@ -23,6 +24,7 @@ pub struct Cell {
 }
 
 // Shard group own of m, a cell for each key. last_run is 1 more than the log number last run, and 0 where none was.
+#[repr(C)]
 pub struct Shard {
     pub cells: [Cell; 256],
     pub ssn: u16,

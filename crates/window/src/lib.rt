@@ -6,6 +6,7 @@ use frames::Item;
 
 // An outstanding number with its operations, as a frame carries them: count of them, 1 to 4, and zero behind these.
 // A slot with count 0 is free, and is zero throughout.
+#[repr(C)]
 pub struct Slot {
     pub number: u16,
     pub count: u8,
@@ -14,6 +15,7 @@ pub struct Slot {
 
 // A number's slot is number mod 8: next minus the smallest outstanding number is at most 8, so no two numbers want one slot.
 // next is 65,535 when the numbers are used up.
+#[repr(C)]
 pub struct Window {
     pub next: u16,
     pub slots: [Slot; 8],
