@@ -19,44 +19,44 @@ use Rattle.session.proofs.Reply.Laws as Reply′
 use Rattle.register.proofs.Stepped.Laws as Stepped′
 use Rattle.register.specs.Memory.{Lies}
 
-item-lies : Lies Item′.mir 8 4 (0 ∷ 1 ∷ 2 ∷ 4 ∷ [])
-item-lies = record { size-is = refl; align-is = refl; offsets-are = refl }
+item-lies : Lies Item′.mir 8 4 (0 ∷ 1 ∷ 2 ∷ 4 ∷ []) (1 ∷ 1 ∷ 1 ∷ 4 ∷ [])
+item-lies = record { size-is = refl; align-is = refl; offsets-are = refl; sizes-are = refl }
 
-entry-lies : Lies Entry′.mir 80 4 (0 ∷ 2 ∷ 4 ∷ 8 ∷ 40 ∷ 44 ∷ 76 ∷ [])
-entry-lies = record { size-is = refl; align-is = refl; offsets-are = refl }
+entry-lies : Lies Entry′.mir 80 4 (0 ∷ 2 ∷ 4 ∷ 8 ∷ 40 ∷ 44 ∷ 76 ∷ []) (1 ∷ 2 ∷ 1 ∷ 32 ∷ 1 ∷ 32 ∷ 1 ∷ [])
+entry-lies = record { size-is = refl; align-is = refl; offsets-are = refl; sizes-are = refl }
 
-queue-lies : Lies Queue′.mir 528 8 (0 ∷ 512 ∷ 520 ∷ [])
-queue-lies = record { size-is = refl; align-is = refl; offsets-are = refl }
+queue-lies : Lies Queue′.mir 528 8 (0 ∷ 512 ∷ 520 ∷ []) (512 ∷ 8 ∷ 4 ∷ [])
+queue-lies = record { size-is = refl; align-is = refl; offsets-are = refl; sizes-are = refl }
 
-board-lies : Lies Board′.mir 26096 8 (0 ∷ 20480 ∷ 20484 ∷ 21508 ∷ 21764 ∷ 21828 ∷ 21864 ∷ 26088 ∷ 26089 ∷ 26090 ∷ 26091 ∷ [])
-board-lies = record { size-is = refl; align-is = refl; offsets-are = refl }
+board-lies : Lies Board′.mir 26096 8 (0 ∷ 20480 ∷ 20484 ∷ 21508 ∷ 21764 ∷ 21828 ∷ 21864 ∷ 26088 ∷ 26089 ∷ 26090 ∷ 26091 ∷ []) (20480 ∷ 2 ∷ 1024 ∷ 256 ∷ 64 ∷ 32 ∷ 4224 ∷ 1 ∷ 1 ∷ 1 ∷ 1 ∷ [])
+board-lies = record { size-is = refl; align-is = refl; offsets-are = refl; sizes-are = refl }
 
-cell-lies : Lies Cell′.mir 8 4 (0 ∷ 4 ∷ 6 ∷ [])
-cell-lies = record { size-is = refl; align-is = refl; offsets-are = refl }
+cell-lies : Lies Cell′.mir 8 4 (0 ∷ 4 ∷ 6 ∷ []) (4 ∷ 2 ∷ 1 ∷ [])
+cell-lies = record { size-is = refl; align-is = refl; offsets-are = refl; sizes-are = refl }
 
-shard-lies : Lies Shard′.mir 2060 4 (0 ∷ 2048 ∷ 2052 ∷ 2056 ∷ 2057 ∷ 2058 ∷ [])
-shard-lies = record { size-is = refl; align-is = refl; offsets-are = refl }
+shard-lies : Lies Shard′.mir 2060 4 (0 ∷ 2048 ∷ 2052 ∷ 2056 ∷ 2057 ∷ 2058 ∷ []) (2048 ∷ 2 ∷ 4 ∷ 1 ∷ 1 ∷ 1 ∷ [])
+shard-lies = record { size-is = refl; align-is = refl; offsets-are = refl; sizes-are = refl }
 
-slot-lies : Lies Slot′.mir 36 4 (0 ∷ 2 ∷ 4 ∷ [])
-slot-lies = record { size-is = refl; align-is = refl; offsets-are = refl }
+slot-lies : Lies Slot′.mir 36 4 (0 ∷ 2 ∷ 4 ∷ []) (2 ∷ 1 ∷ 32 ∷ [])
+slot-lies = record { size-is = refl; align-is = refl; offsets-are = refl; sizes-are = refl }
 
-window-lies : Lies Window′.mir 292 4 (0 ∷ 4 ∷ [])
-window-lies = record { size-is = refl; align-is = refl; offsets-are = refl }
+window-lies : Lies Window′.mir 292 4 (0 ∷ 4 ∷ []) (2 ∷ 288 ∷ [])
+window-lies = record { size-is = refl; align-is = refl; offsets-are = refl; sizes-are = refl }
 
-session-lies : Lies Session′.mir 296 4 (0 ∷ 292 ∷ 293 ∷ [])
-session-lies = record { size-is = refl; align-is = refl; offsets-are = refl }
+session-lies : Lies Session′.mir 296 4 (0 ∷ 292 ∷ 293 ∷ []) (292 ∷ 1 ∷ 1 ∷ [])
+session-lies = record { size-is = refl; align-is = refl; offsets-are = refl; sizes-are = refl }
 
-asked-lies : Lies Asked′.mir 8 4 (0 ∷ 1 ∷ 4 ∷ [])
-asked-lies = record { size-is = refl; align-is = refl; offsets-are = refl }
+asked-lies : Lies Asked′.mir 8 4 (0 ∷ 1 ∷ 4 ∷ []) (1 ∷ 1 ∷ 4 ∷ [])
+asked-lies = record { size-is = refl; align-is = refl; offsets-are = refl; sizes-are = refl }
 
-operations-lies : Lies Operations′.mir 36 4 (0 ∷ 4 ∷ [])
-operations-lies = record { size-is = refl; align-is = refl; offsets-are = refl }
+operations-lies : Lies Operations′.mir 36 4 (0 ∷ 4 ∷ []) (1 ∷ 32 ∷ [])
+operations-lies = record { size-is = refl; align-is = refl; offsets-are = refl; sizes-are = refl }
 
-sent-lies : Lies Sent′.mir 16 8 (0 ∷ 2 ∷ 4 ∷ 8 ∷ [])
-sent-lies = record { size-is = refl; align-is = refl; offsets-are = refl }
+sent-lies : Lies Sent′.mir 16 8 (0 ∷ 2 ∷ 4 ∷ 8 ∷ []) (1 ∷ 2 ∷ 1 ∷ 8 ∷ [])
+sent-lies = record { size-is = refl; align-is = refl; offsets-are = refl; sizes-are = refl }
 
-reply-lies : Lies Reply′.mir 40 4 (0 ∷ 2 ∷ 4 ∷ 8 ∷ [])
-reply-lies = record { size-is = refl; align-is = refl; offsets-are = refl }
+reply-lies : Lies Reply′.mir 40 4 (0 ∷ 2 ∷ 4 ∷ 8 ∷ []) (1 ∷ 2 ∷ 1 ∷ 32 ∷ [])
+reply-lies = record { size-is = refl; align-is = refl; offsets-are = refl; sizes-are = refl }
 
-stepped-lies : Lies Stepped′.mir 16 8 (0 ∷ 1 ∷ 8 ∷ [])
-stepped-lies = record { size-is = refl; align-is = refl; offsets-are = refl }
+stepped-lies : Lies Stepped′.mir 16 8 (0 ∷ 1 ∷ 8 ∷ []) (1 ∷ 1 ∷ 8 ∷ [])
+stepped-lies = record { size-is = refl; align-is = refl; offsets-are = refl; sizes-are = refl }
