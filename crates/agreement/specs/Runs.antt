@@ -1,9 +1,9 @@
 -- A run of a bench: what is delivered to whom, beside the answer and the bytes that must come out, and how boards and shard groups must then stand.
 -- Assumes nothing.
 use mathlib.Core.List.{List, [], _∷_, map}
-use mathlib.Core.Option.{Option, none, some}
-use Prim.Native.Nat.{ℕ, zero, suc, _+_, _-_}
-use Rattle.rules.specs.Lists.{if_then_else_, within, at, snoc, changed}
+use mathlib.Core.Option.{Option}
+use Prim.Native.Nat.{ℕ, zero, suc, _-_}
+use Rattle.rules.specs.Lists.{if_then_else_, within, snoc, changed}
 use Rattle.rules.specs.Transactions.{Cell}
 use Rattle.rules.specs.Outcomes.{Outcome, sentBytes, leastOut}
 use Rattle.rules.specs.Queue.{Queue}

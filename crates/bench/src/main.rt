@@ -5,7 +5,6 @@ use delivery::Register;
 use libc::STDIN_FILENO;
 use libc::STDOUT_FILENO;
 use records::Next;
-ghost use mathlib.Core.Path.{_≡_};
 ghost use Prim.Native.Nat.{_≤_};
 ghost use lib.ListN.{length};
 

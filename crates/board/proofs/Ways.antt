@@ -1,8 +1,8 @@
 -- The three ways out of a step: not usable, refused by the verdict, taken. Each hands back what stepOf and outOf say.
 -- Assumes nothing.
-use mathlib.Core.Path.{_≡_, sym, _∙_, refl, ap}
-use mathlib.Core.Bool.{Bool, true, false}
-use mathlib.Core.List.{List, []}
+use mathlib.Core.Path.{_≡_, sym, _∙_, ap}
+use mathlib.Core.Bool.{true, false}
+use mathlib.Core.List.{List}
 use Prim.Native.Nat.{ℕ}
 use lib.ListN.{length, getD, set}
 use borrow.Author.Tests.{eq-eqb, ne-eqb}
@@ -10,7 +10,6 @@ use Rattle.rules.specs.Lists.{if_then_else_, _<?_}
 use Rattle.rules.specs.Outcomes.{unusable}
 use Rattle.frames.specs.declared.Frame.{Frame}
 use Rattle.frames.specs.Frames.{readFrame}
-use Rattle.entry.specs.declared.Entry.{Entry}
 use Rattle.entry.specs.Model.{touchedOf}
 use Rattle.queue.specs.declared.Queue.{Queue}
 use Rattle.send.specs.declared.Sent.{Sent}

@@ -1,9 +1,9 @@
 -- What a start and a step give, on the records as they lie: the answer, every field and element of the board, the frames sent and
 -- every byte of the out area, for every input. What it means in the rules' words is in View.
 -- Assumes nothing.
-use mathlib.Core.Bool.{Bool, true, false, not, _&&_, _||_}
+use mathlib.Core.Bool.{Bool, true, false, not, _&&_}
 use mathlib.Core.List.{List, [], _∷_}
-use Prim.Native.Nat.{ℕ, zero, suc, _+_, _*_, _%_, max}
+use Prim.Native.Nat.{ℕ, suc, _+_, _*_, _%_, max}
 use lib.ListN.{length, getD, set, take, replicate}
 use Rattle.rules.specs.Lists.{if_then_else_, _<?_, _=?_, within}
 use Rattle.rules.specs.Answers.{done, notUsable}

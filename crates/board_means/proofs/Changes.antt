@@ -3,41 +3,41 @@
 -- Assumes nothing.
 use mathlib.Core.Path.{_≡_, refl, sym, ap, _∙_, fun-ext}
 use mathlib.Core.Logic.{_⊎_, inl, inr}
-use mathlib.Core.Bool.{Bool, true, false, not, _&&_}
-use mathlib.Core.List.{List, [], _∷_, map}
-use mathlib.Core.Option.{Option, none, some}
-use Prim.Native.Nat.{ℕ, zero, suc, _+_, _%_, _≤_, _<_, max}
+use mathlib.Core.Bool.{Bool, true, false}
+use mathlib.Core.List.{List, map}
+use mathlib.Core.Option.{some}
+use Prim.Native.Nat.{ℕ, suc, _+_, _≤_, _<_, max}
 use native.Mathlib.Omega.{arith}
 use native.Mathlib.Nat.{mod-eq-of-lt}
 use native.Mathlib.Numerals.{add-one}
-use lib.Dec.{T, leb, eqb, eqb→eq}
+use lib.Dec.{eqb, eqb→eq}
 use lib.ListN.{length, getD, set, take, length-take, length-set, length-map}
 use lib.Seq.{getD-set-same, getD-set-other}
-use mir.Facts.{eqb-no, yes-eqb, no-eqb}
+use mir.Facts.{eqb-no}
 use Rattle.rules.specs.Lists.{if_then_else_, at, snoc, changed}
-use Rattle.rules.specs.Transactions.{Write, touched}
+use Rattle.rules.specs.Transactions.{touched}
 use Rattle.rules.specs.Queue as Q
 use Rattle.rules.specs.Queue.{enqueue, takeUpTo}
 use Rattle.rules.specs.Board as B
 use Rattle.rules.specs.Board.{writes, nextNumber, holding, onQueues, raiseFloor, append, newEntry}
-use Rattle.rules.proofs.Lists.{by, if-yes, if-no, nothing, at-lt, at-snoc-cases, at-set-cases}
+use Rattle.rules.proofs.Lists.{by, at-lt, at-snoc-cases, at-set-cases}
 use Rattle.rules.proofs.Kept.{writes-snoc, writes-set}
 use Rattle.frames.specs.declared.Item.{Item}
 use Rattle.entry.specs.declared.Entry.{Entry}
-use Rattle.entry.specs.Model.{inMask, isEmptyOf, touchedOf, newEntryOf}
+use Rattle.entry.specs.Model.{inMask, isEmptyOf, newEntryOf}
 use Rattle.entry.specs.View.{setOf, writeOf, viewEntry, EntryHeld}
 use Rattle.entry.proofs.Sets.{touched-set}
 use Rattle.entry.proofs.Entries.{theWrite, new-view}
 use Rattle.queue.specs.declared.Queue.{Queue}
 use Rattle.queue.specs.Model.{pushedAll, takenAll}
-use Rattle.queue.specs.View.{viewQueues, QueueHeld, QueuesHeld}
+use Rattle.queue.specs.View.{viewQueues, QueuesHeld}
 use Rattle.queue.proofs.Meaning.{pushed-view, taken-view, pushed-held, taken-held}
 use Rattle.verdict.specs.declared.Verdict.{Verdict}
 use Rattle.verdict.specs.Model.{nextOf, floorOf}
 use Rattle.board.specs.declared.Board.{Board}
 use Rattle.board.specs.Model.{slotOf, blank, entryAt, nameOf, raisedOf, followedOf, queuesAfter, boardAfter}
 use Rattle.board_means.specs.View.{entriesOf, viewLog, viewBoard, nameIn, maskIn, Columns}
-use Rattle.board_means.proofs.Slots.{take-set, take-snoc, set-same, at-take, map-set, map-snoc, at-map}
+use Rattle.board_means.proofs.Slots.{take-set, take-snoc, at-take, map-set, map-snoc, at-map}
 use Rattle.board_means.proofs.Numbers.{next-snoc}
 
 pub slot-is : (ind : ℕ) → ind < 256 → slotOf ind ≡ ind

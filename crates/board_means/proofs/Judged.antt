@@ -5,33 +5,32 @@ use mathlib.Core.Path.{_≡_, refl, sym, ap, _∙_}
 use mathlib.Core.Bool.{Bool, true, false, not, _&&_}
 use mathlib.Core.List.{List, [], _∷_, map}
 use mathlib.Core.Option.{Option, none, some}
-use Prim.Native.Nat.{ℕ, zero, suc, _+_, _≤_, _<_, max}
+use Prim.Native.Nat.{ℕ, suc, _+_, _≤_, _<_, max}
 use native.Mathlib.Omega.{arith}
-use lib.Dec.{T, leb, ltb, eqb, leb→le, ltb→lt, lt→ltb, nltb→le, nleb→lt, le→leb, eqb→eq, T-not}
+use lib.Dec.{T, leb, ltb, eqb, ltb→lt, lt→ltb, nltb→le, nleb→lt, eqb→eq}
 use lib.ListN.{length, set, take, length-map}
 use mir.Facts.{no-leb, no-ltb}
-use Rattle.rules.specs.Lists.{if_then_else_, _<?_, at, snoc, isEmpty, changed, has, insert, strike}
-use Rattle.rules.specs.Transactions.{Operation, Write, Read, touched, touches, placed, onShard, sameWrite}
+use Rattle.rules.specs.Lists.{if_then_else_, at, snoc, changed, has, insert}
+use Rattle.rules.specs.Transactions.{Write, touched, touches, placed, onShard, sameWrite}
 use Rattle.rules.specs.Frames as F
-use Rattle.rules.specs.Frames.{okReads}
 use Rattle.rules.specs.Outcomes as O
 use Rattle.rules.specs.Outcomes.{sentBytes, taken, refuse}
 use Rattle.rules.specs.Queue.{takeUpTo}
 use Rattle.rules.specs.Board as B
 use Rattle.rules.specs.Board.{isEXE, PRE, EXE, writes, nextNumber, find, holding, onQueues, raiseFloor, append, newEntry, settle, backward, onward, serveNew, serveHeld, serveFound, submitStep, forwardStep, heardFrom, execNotifStep, finished, executedStep, logSize}
-use Rattle.rules.specs.Kept.{ofClient, Counted, NumbersKept}
+use Rattle.rules.specs.Kept.{ofClient, Counted}
 use Rattle.rules.proofs.Lists.{by, if-yes, if-no, yes-of, nothing, at-lt, strike-sub, T-true}
 use Rattle.rules.proofs.Frames.{WriteRules}
 use Rattle.rules.proofs.Steps.{same-write}
-use Rattle.rules.proofs.Numbers.{found, find-stands}
+use Rattle.rules.proofs.Numbers.{find-stands}
 use Rattle.frames.specs.declared.Item.{Item}
 use Rattle.frames.specs.declared.Frame.{Frame}
 use Rattle.frames.specs.declared.Shape.the-variants.{Operation as AnOperation}
 use Rattle.frames.specs.Frames.{okItems}
-use Rattle.frames.specs.View.{operationsOf, placedOf, readsOf, Canon}
+use Rattle.frames.specs.View.{operationsOf, readsOf, Canon}
 use Rattle.frames.proofs.Round.{enough}
 use Rattle.entry.specs.declared.Entry.{Entry}
-use Rattle.entry.specs.Model.{inMask, insertOf, isEmptyOf, touchedOf, isOn, chosen, partOn, fitsOf, newEntryOf, sameWriteOf, heardFromOf, finishedOf}
+use Rattle.entry.specs.Model.{inMask, insertOf, touchedOf, isOn, chosen, partOn, fitsOf, newEntryOf, sameWriteOf, heardFromOf, finishedOf}
 use Rattle.entry.specs.View.{setOf, writeOf, viewEntry, EntryHeld}
 use Rattle.entry.proofs.Sets.{in-set, insert-set, strike-set, touched-set}
 use Rattle.entry.proofs.Slots.{beside-few, part-slots}
@@ -49,7 +48,7 @@ use Rattle.board_means.specs.View.{entriesOf, viewLog, viewBoard, nameIn
 use Rattle.board_means.proofs.Slots.{set-same, at-map, at-none, at-set, at-end}
 use Rattle.board_means.proofs.Numbers as N
 use Rattle.board_means.proofs.Numbers.{placeIn, find-is}
-use Rattle.board_means.proofs.Changes.{floor-still, no-queues, verdict, newVerdict, theNew, entries-length, view-length, old-entry, entries-replaced, replaced-columns, replaced-view, entries-longer, longer-columns, longer-view}
+use Rattle.board_means.proofs.Changes.{floor-still, no-queues, verdict, newVerdict, entries-length, view-length, old-entry, entries-replaced, replaced-columns, replaced-view, entries-longer, longer-columns, longer-view}
 
 -- ---- What is sent
 

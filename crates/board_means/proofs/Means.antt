@@ -3,18 +3,17 @@
 -- Assumes nothing.
 use mathlib.Core.Path.{_≡_, refl, sym, ap, _∙_, fun-ext}
 use mathlib.Core.Bool.{Bool, true, false, not, _&&_, _||_}
-use mathlib.Core.List.{List, [], _∷_, _++_, map}
-use mathlib.Core.Option.{Option, none, some}
+use mathlib.Core.List.{List, [], _++_}
+use mathlib.Core.Option.{none}
 use Prim.Native.Nat.{ℕ, zero, suc, _-_, _≤_, _<_}
 use native.Mathlib.Omega.{arith}
 use lib.Dec.{T, leb, ltb, eqb, leb→le, nltb→le}
 use lib.ListN.{length, getD, take, drop, replicate, length-replicate}
 use Rattle.rules.specs.Lists.{if_then_else_, within, at}
-use Rattle.rules.specs.Transactions.{Write}
 use Rattle.rules.specs.Frames as F
-use Rattle.rules.specs.Frames.{submit, forward, shardAppend, execNotif, executed, response, okInd, okReads, okWrite, obeys, decode}
+use Rattle.rules.specs.Frames.{submit, forward, execNotif, executed, okInd, okReads, okWrite, obeys, decode}
 use Rattle.rules.specs.Outcomes as O
-use Rattle.rules.specs.Outcomes.{sentBytes, taken, refuse, unusable, outAfter}
+use Rattle.rules.specs.Outcomes.{taken, refuse, unusable}
 use Rattle.rules.specs.Queue as Q
 use Rattle.rules.specs.Queue.{emptyQueue}
 use Rattle.rules.specs.Board as B
@@ -29,24 +28,23 @@ use Rattle.frames.specs.declared.Frame.{Frame}
 use Rattle.frames.specs.declared.Head.{Head}
 use Rattle.frames.specs.declared.Head.the-variants.{Bad, Submit, Forward, ShardAppend, ExecNotif, Executed, Response}
 use Rattle.frames.specs.Frames.{valid, badFrame, readFrame}
-use Rattle.frames.specs.View.{operationsOf, placedOf, readsOf, CanonFrame, meant, meaning, Bytes}
-use Rattle.frames.proofs.Round.{items-of, Spells, reads}
+use Rattle.frames.specs.View.{readsOf, CanonFrame, meant, meaning, Bytes}
+use Rattle.frames.proofs.Round.{items-of, reads}
 use Rattle.frames.proofs.Meaning.{valid-obeys, reads-mean}
 use Rattle.entry.specs.Model.{noEntry}
-use Rattle.entry.proofs.Entries.{Carried, theWrite}
+use Rattle.entry.proofs.Entries.{theWrite}
 use Rattle.queue.specs.declared.Queue.{Queue}
 use Rattle.queue.specs.Model.{noQueue}
-use Rattle.queue.specs.View.{viewQueue, viewQueues, blankQueue, QueuesHeld}
-use Rattle.send.specs.Model.{bytesOf, laid}
-use Rattle.verdict.specs.declared.Verdict.{Verdict}
-use Rattle.verdict.specs.Model.{nextOf, floorOf, refuseOf, judgeOf}
+use Rattle.queue.specs.View.{viewQueue, viewQueues, blankQueue}
+use Rattle.send.specs.Model.{laid}
+use Rattle.verdict.specs.Model.{nextOf, refuseOf, judgeOf}
 use Rattle.board.specs.declared.Board.{Board}
 use Rattle.board.specs.declared.Started.{Started}
 use Rattle.board.specs.declared.Stepped.{Stepped}
 use Rattle.board.specs.Model as M
 use Rattle.board.specs.Model.{emptyBoard, inRange, startOf, nameOf, positionOf, placeOf, boardAfter, takenStep, judgedStep, verdictOf, frameStep, outcome, stepOf, outOf}
-use Rattle.board_means.specs.View.{entriesOf, viewLog, viewBoard, nameIn, maskIn, Columns, Held, StartMeans, StepMeans}
-use Rattle.board_means.proofs.Judged.{Sends, nothing-sent, Lifts, Judged, refusing, either, submit-means, forward-means, exec-notif-means, executed-means}
+use Rattle.board_means.specs.View.{viewBoard, Columns, Held, StartMeans, StepMeans}
+use Rattle.board_means.proofs.Judged.{nothing-sent, Lifts, Judged, refusing, either, submit-means, forward-means, exec-notif-means, executed-means}
 
 -- the same test on both sides
 both-ways : {A : Type 0} {B : Type 0} (R : A → B → Type 0) {x y : A} {p q : B} (t u : Bool) → t ≡ u → (T t → R x p) → (T (not t) → R y q)

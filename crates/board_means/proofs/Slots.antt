@@ -1,13 +1,13 @@
 -- Arrays and the lists that they begin with: an element stored behind the list's end makes it longer by one, an element stored within it changes
 -- it there.
 -- Assumes nothing.
-use mathlib.Core.Path.{_≡_, refl, sym, ap, _∙_}
-use mathlib.Core.List.{List, [], _∷_, _++_, map}
-use mathlib.Core.Option.{Option, none, some}
+use mathlib.Core.Path.{_≡_, refl, sym, ap}
+use mathlib.Core.List.{List, [], _∷_, map}
+use mathlib.Core.Option.{none, some}
 use Prim.Native.Nat.{ℕ, zero, suc, _+_, _≤_, _<_}
 use native.Mathlib.Omega.{arith}
 use native.Mathlib.Numerals.{add-one}
-use lib.ListN.{length, getD, set, take, length-take}
+use lib.ListN.{length, getD, set, take}
 use lib.Seq.{take-suc-set}
 use Rattle.rules.specs.Lists.{at, snoc}
 use Rattle.rules.proofs.Lists.{nothing}

@@ -1,11 +1,10 @@
 -- A run goes on by one record or stops: what the loop of `deliver` keeps from turn to turn.
 -- Assumes nothing.
 use mathlib.Core.Bool.{Bool, true, false, _||_}
-use mathlib.Core.List.{List, [], _∷_, _++_}
+use mathlib.Core.List.{List, [], _∷_}
 use mathlib.Core.Path.{_≡_, refl, ap, sym, _∙_}
 use Prim.Native.Nat.{ℕ, zero, suc, _+_, _-_, _≤_, _<_}
 use native.Mathlib.Omega.{arith}
-use native.Mathlib.Numerals.{add-one}
 use lib.Dec.{leb, ltb}
 use lib.ListN.{length, take, drop, length-drop}
 use lib.Seq.{length-take-le, take-all}
@@ -17,12 +16,11 @@ use Rattle.rules.specs.Lists.{if_then_else_}
 use Rattle.lines.specs.Text.{dLine}
 use Rattle.lines.proofs.Short.{d-short}
 use Rattle.delivery.specs.declared.Register.{Register}
-use Rattle.delivery.specs.declared.Delivered.{Delivered}
 use Rattle.records.specs.declared.Next.{Next}
 use Rattle.records.specs.declared.Next.the-variants.{Record, Need, Cut}
 use Rattle.records.specs.Records.{nextOf}
 use Rattle.delivery.specs.Register.{Turn, turnOf}
-use Rattle.delivery.specs.Delivery.{Run, frameAt, after, onward, full, runs, delivered, deliveredOf, begun, standing}
+use Rattle.delivery.specs.Delivery.{Run, frameAt, after, onward, full, runs, delivered, deliveredOf, standing}
 use Rattle.records.proofs.Next.{the-type}
 use Rattle.records.proofs.Records.{record-inside}
 use Rattle.delivery.proofs.Area.{Grown, lined, more-text, grows, stands, ungrown}

@@ -3,13 +3,12 @@
 use mathlib.Core.Bool.{Bool, true, false, _&&_}
 use mathlib.Core.List.{List, [], _∷_}
 use mathlib.Core.Path.{_≡_, refl, ap, sym, _∙_}
-use Prim.Native.Nat.{ℕ, zero, suc, _-_, _≤_, _<_}
+use Prim.Native.Nat.{ℕ, zero, suc, _-_, _<_}
 use native.Mathlib.Omega.{arith}
-use lib.Dec.{leb}
 use lib.ListN.{length, getD}
 use borrow.Author.Tests.{eq-eqb, ne-eqb, leb-true}
 use Rattle.rules.specs.Lists.{if_then_else_, within, _≤?_}
-use Rattle.rules.specs.Answers.{done, notForMe}
+use Rattle.rules.specs.Answers.{notForMe}
 use Rattle.board.specs.declared.Board.{Board}
 use Rattle.board.specs.declared.Stepped.{Stepped as BoardStepped}
 use Rattle.board.specs.Model.{stepOf as boardStep}
@@ -20,7 +19,7 @@ use Rattle.delivery.specs.declared.Register.{Register}
 use Rattle.records.specs.declared.Receiver.{Receiver}
 use Rattle.records.specs.declared.Receiver.the-variants.{Board as toBoard, Shard as toShard, Nobody as toNobody}
 use Rattle.records.specs.Records.{receiverOf}
-use Rattle.delivery.specs.Register.{Turn, boardTurn, shardTurn, turnAt, turnOf, withBoard, withShard, boardAtStart, shardAtStart}
+use Rattle.delivery.specs.Register.{boardTurn, shardTurn, turnAt, turnOf, withBoard, withShard, boardAtStart, shardAtStart}
 
 and-left : (t u : Bool) → t && u ≡ true → t ≡ true
 and-left true u e = refl

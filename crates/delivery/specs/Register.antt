@@ -1,6 +1,5 @@
 -- The register under test: its boards and shard groups as they start, and what a record does to them.
 -- Assumes nothing.
-use mathlib.Core.Bool.{Bool}
 use mathlib.Core.List.{List, [], _∷_}
 use Prim.Native.Nat.{ℕ}
 use lib.ListN.{getD, set}

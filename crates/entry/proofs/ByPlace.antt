@@ -4,15 +4,15 @@
 use mathlib.Core.Path.{_≡_, refl, sym, ap, _∙_}
 use mathlib.Core.Bool.{Bool, true, false, not, _&&_}
 use mathlib.Core.List.{List, [], _∷_, map}
-use mathlib.Core.Option.{Option, none, some}
+use mathlib.Core.Option.{Option, some}
 use Prim.Native.Nat.{ℕ, zero, suc, _+_, _≤_, _<_}
 use native.Mathlib.Omega.{arith}
-use lib.Dec.{T, leb, leb→le, le→leb, T-not}
+use lib.Dec.{T, leb, leb→le, le→leb}
 use lib.ListN.{length, getD, set, length-set}
 use lib.Seq.{getD-set-same, getD-set-other}
-use Rattle.rules.specs.Lists.{if_then_else_, at}
+use Rattle.rules.specs.Lists.{at}
 use Rattle.rules.specs.Transactions.{Operation, get, put, Placed, Read, keyOf, placed, keep, getPlace, getPlaces}
-use Rattle.rules.proofs.Lists.{by, if-yes, if-no, and, and-l, and-r, nothing}
+use Rattle.rules.proofs.Lists.{by, and, and-l, and-r, nothing}
 use Rattle.rules.proofs.Gather.{gather, gatherOne}
 use Rattle.frames.specs.declared.Item.{Item}
 use Rattle.frames.specs.Frames.{noItem, okItem, okFrom}

@@ -3,34 +3,31 @@
 use mathlib.Core.Path.{_≡_, refl, sym, ap, _∙_, fun-ext}
 use mathlib.Core.Bool.{Bool, true, false, not, _&&_, _||_}
 use mathlib.Core.List.{List, [], _∷_, map}
-use mathlib.Core.Option.{Option, none, some}
-use Prim.Native.Nat.{ℕ, zero, suc, _+_, _-_, _≤_, _<_}
+use mathlib.Core.Option.{none, some}
+use Prim.Native.Nat.{ℕ, zero, suc, _≤_, _<_}
 use native.Mathlib.Omega.{arith}
-use lib.Dec.{T, leb, eqb, leb→le, eqb→eq, eqb-refl, T-not}
-use lib.ListN.{length, getD, set, take, replicate, length-set, length-replicate}
-use Rattle.rules.specs.Lists.{if_then_else_, at, isEmpty, every, same, has, strike}
-use Rattle.rules.specs.Transactions.{Operation, get, put, Write, Placed, Read, keyOf, shardOf, touched, placed, keep, onShard, getPlaces}
+use lib.Dec.{T, leb, eqb, leb→le, eqb→eq, T-not}
+use lib.ListN.{length, getD, set, take, length-set, length-replicate}
+use Rattle.rules.specs.Lists.{if_then_else_, at, isEmpty, every, has, strike}
+use Rattle.rules.specs.Transactions.{Operation, Write, Read, keyOf, shardOf, touched, placed, keep, onShard, getPlaces}
 use Rattle.rules.specs.Frames.{okReads}
 use Rattle.rules.specs.Board as B
-use Rattle.rules.specs.Board.{PRE, EXE, isEXE, addReads}
-use Rattle.rules.specs.Kept.{EntryKept}
-use Rattle.rules.proofs.Lists.{by, if-yes, if-no, and, and-l, and-r, nothing, same-eq, T-true, T-false}
+use Rattle.rules.specs.Board.{PRE, EXE, addReads}
+use Rattle.rules.proofs.Lists.{by, and, and-l, and-r, nothing, same-eq, T-false}
 use Rattle.rules.proofs.Frames.{WriteRules}
 use Rattle.rules.proofs.Sets.{strike-has, touched-every}
-use Rattle.rules.proofs.Gather.{gather, gather-both}
+use Rattle.rules.proofs.Gather.{gather-both}
 use Rattle.rules.proofs.Obeys.{none-left, all-left, new-entry, heard-entry, finished-entry}
 use Rattle.frames.specs.declared.Item.{Item}
 use Rattle.frames.specs.declared.Shape.the-variants.{Operation as AnOperation, Read as ARead}
 use Rattle.frames.specs.Frames.{noItem, okItem, okFrom, okItems}
-use Rattle.frames.specs.View.{asOperation, asPlaced, asRead, operationsOf, placedOf, readsOf, CanonItem, CanonFrom, Canon}
-use Rattle.frames.proofs.Round.{enough}
+use Rattle.frames.specs.View.{asRead, operationsOf, readsOf, CanonItem, CanonFrom, Canon}
 use Rattle.entry.specs.declared.Entry.{Entry}
-use Rattle.entry.specs.Model.{bitOf, inMask, insertOf, strikeOf, isEmptyOf, touchedMask, touchedOf, storedAll, storedOf, noItems, newEntryOf, heardFromOf, finishedOf}
+use Rattle.entry.specs.Model.{inMask, insertOf, strikeOf, isEmptyOf, touchedMask, touchedOf, storedAll, storedOf, noItems, newEntryOf, heardFromOf, finishedOf}
 use Rattle.entry.specs.View.{setOf, saw, readsAt, heardKey, writeOf, viewEntry, isGet, ReadOf, EntryHeld}
-use Rattle.entry.proofs.Masks.{in-range, bit-room}
+use Rattle.entry.proofs.Masks.{bit-room}
 use Rattle.entry.proofs.Sets.{in-set, strike-set, empty-set, touched-set}
 use Rattle.entry.proofs.ByPlace.{Each, After, new, old, stored-reads, after-store, same-reads, reads-gather}
-use Rattle.entry.proofs.Meaning.{placed-view}
 
 -- ---- What a frame's reads are
 

@@ -1,41 +1,31 @@
 -- What the functions on entries mean in the rules' words, one law for each: the part of a shard, the same write, reads that fit, and an entry
 -- that is new, heard from, or finished.
 -- Assumes nothing.
-use mathlib.Core.Path.{_≡_, refl, sym, ap, _∙_, fun-ext}
-use mathlib.Core.Bool.{Bool, true, false, not, _&&_, _||_}
-use mathlib.Core.List.{List, [], _∷_, _++_, map}
-use mathlib.Core.Option.{Option, none, some}
-use Prim.Native.Nat.{ℕ, zero, suc, _+_, _≤_, _<_}
+use mathlib.Core.Path.{_≡_, refl, sym, ap, _∙_}
+use mathlib.Core.Bool.{Bool, true, false, not, _&&_}
+use mathlib.Core.List.{List, [], _∷_, map}
+use Prim.Native.Nat.{ℕ, zero, suc, _≤_}
 use native.Mathlib.Omega.{arith}
-use lib.Dec.{T, leb, eqb, leb→le, eqb→eq, eqb-refl, T-not}
-use lib.ListN.{length, getD, take, replicate}
-use mir.Facts.{yes-eqb, no-eqb, eqb-no}
-use Rattle.rules.specs.Lists.{if_then_else_, at, isEmpty, every, same, has, strike}
+use lib.Dec.{T, leb, eqb, eqb→eq}
+use lib.ListN.{length, take}
+use mir.Facts.{yes-eqb, eqb-no}
+use Rattle.rules.specs.Lists.{if_then_else_, same}
 use Rattle.rules.specs.Transactions as R
-use Rattle.rules.specs.Transactions.{Operation, get, put, Write, Placed, Read, keyOf, shardOf, touched, placed, keep, onShard, getPlace, getPlaces, sameOperations, sameWrite}
-use Rattle.rules.specs.Frames.{okReads}
+use Rattle.rules.specs.Transactions.{get, put, Read, keyOf, shardOf, placed, keep, onShard, getPlace, getPlaces, sameOperations, sameWrite}
 use Rattle.rules.specs.Board as B
-use Rattle.rules.specs.Board.{PRE, EXE, addReads}
-use Rattle.rules.specs.Kept.{EntryKept}
-use Rattle.rules.proofs.Lists.{by, if-yes, if-no, and, and-l, and-r, nothing, same-eq, same-refl, T-true, T-false}
-use Rattle.rules.proofs.Frames.{WriteRules}
-use Rattle.rules.proofs.Sets.{strike-has, touched-every}
-use Rattle.rules.proofs.Gather.{gather, gather-both}
-use Rattle.rules.proofs.Obeys.{none-left, all-left, new-entry, heard-entry, finished-entry}
+use Rattle.rules.proofs.Lists.{and, and-l, and-r}
 use Rattle.frames.specs.declared.Item.{Item}
-use Rattle.frames.specs.declared.Shape.the-variants.{Operation as AnOperation, Read as ARead}
-use Rattle.frames.specs.Frames.{noItem, okItem, okFrom, okItems}
-use Rattle.frames.specs.View.{asOperation, asPlaced, asRead, operationsOf, placedOf, readsOf, Sized, CanonItem, CanonFrom, Canon}
+use Rattle.frames.specs.declared.Shape.the-variants.{Operation as AnOperation}
+use Rattle.frames.specs.Frames.{okItem, okFrom, okItems}
+use Rattle.frames.specs.View.{asOperation, asPlaced, asRead, operationsOf, placedOf, readsOf, CanonFrom, Canon}
 use Rattle.frames.proofs.Items.{ItemRules, item-rules}
 use Rattle.frames.proofs.Round.{enough}
 use Rattle.entry.specs.declared.Entry.{Entry}
-use Rattle.entry.specs.declared.Part.{Part}
-use Rattle.entry.specs.Model.{inMask, strikeOf, isEmptyOf, shardNumber, touchedOf, partOf, beside, isOn, chosen, partOn, agree, sameOperation, sameOperationsOf, samePlace, fitsOf, storedAll, storedOf, noItems, newEntryOf, sameWriteOf, heardFromOf, finishedOf}
+use Rattle.entry.specs.Model.{beside, isOn, chosen, partOn, agree, sameOperation, sameOperationsOf, samePlace, fitsOf, sameWriteOf}
 use Rattle.entry.specs.Model as M
-use Rattle.entry.specs.View.{setOf, saw, readsAt, heardKey, writeOf, viewEntry, isGet, ReadOf, EntryHeld}
-use Rattle.entry.proofs.Slots.{part-take, beside-few}
-use Rattle.entry.proofs.Sets.{iff, in-set, strike-set, empty-set, shard-number, key-of, touched-set}
-use Rattle.entry.proofs.ByPlace.{Each, After, new, old, stored-reads, after-store, same-reads, reads-gather}
+use Rattle.entry.specs.View.{writeOf, isGet}
+use Rattle.entry.proofs.Slots.{part-take}
+use Rattle.entry.proofs.Sets.{iff, shard-number, key-of}
 
 -- ---- Operations with their places
 

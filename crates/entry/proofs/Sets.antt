@@ -1,18 +1,18 @@
 -- A byte is a set of shards: testing, inserting, striking and being empty mean the same of the byte and of the rules' rising list.
 -- Assumes nothing.
 use mathlib.Core.Path.{_≡_, refl, sym, ap, _∙_}
-use mathlib.Core.Bool.{Bool, true, false, not, _&&_, _||_}
+use mathlib.Core.Bool.{Bool, true, false, not, _&&_}
 use mathlib.Core.List.{List, [], _∷_, map}
 use Prim.Native.Nat.{ℕ, zero, suc, _+_, _≤_, _<_}
 use native.Mathlib.Nat.{mod-lt}
 use native.Mathlib.Omega.{arith}
-use lib.Dec.{T, leb, ltb, eqb, eqb→eq, eqb-refl, T-not}
-use lib.ListN.{length, take}
+use lib.Dec.{T, eqb, eqb→eq, eqb-refl}
+use lib.ListN.{take}
 use mir.Facts.{yes-eqb, no-eqb, eqb-no}
 use Rattle.rules.specs.Lists.{if_then_else_, isEmpty, has, insert, strike}
 use Rattle.rules.specs.Transactions.{Operation, keyOf, shardOf, touched}
 use Rattle.rules.specs.Kept.{Ascending}
-use Rattle.rules.proofs.Lists.{by, if-yes, if-no, and-l, and-r, or-cases, or-left, or-right, T-true, T-false}
+use Rattle.rules.proofs.Lists.{by, if-yes, if-no, or-cases, or-left, or-right, T-true, T-false}
 use Rattle.rules.proofs.Sets.{insert-same, insert-old, insert-cases, strike-has}
 use Rattle.rules.proofs.Room.{insert-ascends, strike-ascends}
 use Rattle.frames.specs.declared.Item.{Item}

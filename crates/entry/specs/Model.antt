@@ -1,11 +1,11 @@
 -- What each function of the crate gives, on the records as they lie: every field and every element is determined, for
 -- every input. What it means in the rules' words is in View.
 -- Assumes nothing.
-use mathlib.Core.Bool.{Bool, true, false, not, _&&_, _||_}
+use mathlib.Core.Bool.{Bool, true, false, not, _&&_}
 use mathlib.Core.List.{List, [], _∷_, _++_}
-use Prim.Native.Nat.{ℕ, zero, suc, _+_, _-_, _*_, _/_, _%_, _^_}
-use lib.ListN.{length, getD, set, take, replicate}
-use Rattle.rules.specs.Lists.{if_then_else_, _<?_, _≤?_, _=?_, within}
+use Prim.Native.Nat.{ℕ, _+_, _-_, _/_, _%_, _^_}
+use lib.ListN.{length, set, take, replicate}
+use Rattle.rules.specs.Lists.{if_then_else_, _<?_, _=?_, within}
 use Rattle.rules.specs.Transactions.{shardOf}
 use Rattle.frames.specs.declared.Item.{Item}
 use Rattle.frames.specs.Frames.{noItem}

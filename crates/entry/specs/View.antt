@@ -2,8 +2,8 @@
 -- Assumes nothing.
 use mathlib.Core.Path.{_≡_}
 use mathlib.Core.Bool.{Bool, true, false, not}
-use mathlib.Core.List.{List, [], _∷_, map}
-use mathlib.Core.Option.{Option, none, some}
+use mathlib.Core.List.{List, [], _∷_}
+use mathlib.Core.Option.{Option, some}
 use Prim.Native.Nat.{ℕ, zero, suc, _<_}
 use lib.Dec.{T}
 use lib.ListN.{length, getD}
@@ -15,7 +15,7 @@ use Rattle.rules.specs.Kept.{EntryKept}
 use Rattle.frames.specs.declared.Item.{Item}
 use Rattle.frames.specs.declared.Shape.the-variants.{Operation as AnOperation, Read as ARead}
 use Rattle.frames.specs.Frames.{noItem, okItem, okItems}
-use Rattle.frames.specs.View.{asRead, operationsOf, Sized, CanonItem, Canon}
+use Rattle.frames.specs.View.{asRead, operationsOf, CanonItem, Canon}
 use Rattle.entry.specs.declared.Entry.{Entry}
 use Rattle.entry.specs.Model.{inMask}
 

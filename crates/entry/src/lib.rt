@@ -2,7 +2,7 @@
 // only, no board is in sight. Shards are numbered 1..8; a set of them is one byte, shard j at bit j - 1.
 // What each function means in the rules' words stands in specs/View.antt and is proved in proofs/Meaning.antt.
 ghost use mathlib.Core.Path.{_≡_};
-ghost use mathlib.Core.Bool.{Bool, true, false, _&&_};
+ghost use mathlib.Core.Bool.{true, false};
 ghost use Prim.Native.Nat.{_≤_};
 ghost use Rattle.entry.specs.Model.{bitOf, inMask, insertOf, strikeOf, isEmptyOf, shardNumber, touchOf, touchedOf, noPart, withOf, partOn, getsOf, sameOperation, sameOperationsOf, sameWriteOf, fitsOf, keepRead, storedOf, answeredOf, readsHeld, noEntry, newEntryOf, heardFromOf, finishedOf};
 use frames::Item;

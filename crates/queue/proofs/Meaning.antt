@@ -2,25 +2,25 @@
 -- Assumes nothing.
 use mathlib.Core.Path.{_≡_, refl, sym, ap, _∙_, fun-ext}
 use mathlib.Core.Bool.{Bool, true, false, not, _&&_}
-use mathlib.Core.List.{List, [], _∷_, _++_}
-use mathlib.Core.Option.{Option, none, some}
+use mathlib.Core.List.{List, [], _∷_}
+use mathlib.Core.Option.{Option, some}
 use Prim.Native.Nat.{ℕ, zero, suc, _+_, _-_, _≤_, _<_}
 use native.Mathlib.Omega.{arith}
 use native.Mathlib.Numerals.{add-one}
-use lib.Dec.{T, leb, ltb, eqb, leb→le, le→leb, ltb→lt, lt→ltb, eqb→eq, nleb→lt}
+use lib.Dec.{T, leb, ltb, eqb, leb→le, le→leb, ltb→lt, lt→ltb}
 use lib.ListN.{length, getD, set, take, drop, replicate, length-append, length-set, length-replicate, length-drop, length-take}
 use lib.Seq.{take-suc-set, take-append-seam}
-use mir.Facts.{no-eqb, yes-eqb}
+use mir.Facts.{no-eqb}
 use Rattle.rules.specs.Lists.{if_then_else_, within, below, snoc, has}
 use Rattle.rules.specs.Queue as Q
 use Rattle.rules.specs.Queue.{emptyQueue, enqueue, takeFrom, takeUpTo}
 use Rattle.rules.specs.Board.{onQueues}
-use Rattle.rules.proofs.Lists.{by, if-yes, if-no, and, and-l, and-r, T-true, T-false}
+use Rattle.rules.proofs.Lists.{by, if-yes, if-no, and-l, and-r, T-true}
 use Rattle.entry.specs.Model.{inMask}
 use Rattle.entry.specs.View.{setOf}
 use Rattle.entry.proofs.Sets.{iff, in-set}
 use Rattle.queue.specs.declared.Queue.{Queue}
-use Rattle.queue.specs.Model.{slotsOf, noQueue, waiting, pushedOf, upTo, lastOf, leftOf, without, takenOf, changeFrom, pushedAll, takenAll}
+use Rattle.queue.specs.Model.{slotsOf, waiting, pushedOf, upTo, lastOf, leftOf, without, takenOf, changeFrom, pushedAll, takenAll}
 use Rattle.queue.specs.View.{viewLast, viewQueue, blankQueue, viewQueues, QueueHeld, QueuesHeld}
 
 -- ---- Pushed

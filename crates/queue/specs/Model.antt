@@ -1,9 +1,9 @@
 -- What each function of the crate gives, on the records as they lie: every field and every element is determined, for
 -- every input. What it means in the rules' words is in View.
 -- Assumes nothing.
-use mathlib.Core.Bool.{Bool, true, false, _&&_}
+use mathlib.Core.Bool.{_&&_}
 use mathlib.Core.List.{List, [], _∷_, _++_}
-use Prim.Native.Nat.{ℕ, zero, suc, _+_, _-_}
+use Prim.Native.Nat.{ℕ, suc, _+_, _-_}
 use lib.ListN.{length, getD, set, take, drop, replicate}
 use Rattle.rules.specs.Lists.{if_then_else_, _<?_, _≤?_, _=?_}
 use Rattle.entry.specs.Model.{inMask}

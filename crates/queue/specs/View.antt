@@ -1,8 +1,7 @@
 -- What a queue's record means in the rules' words, and what holds of every queue that a board keeps.
 -- Assumes nothing.
 use mathlib.Core.Path.{_≡_}
-use mathlib.Core.Bool.{Bool, true, false}
-use mathlib.Core.List.{List, [], _∷_}
+use mathlib.Core.List.{List, []}
 use mathlib.Core.Option.{Option, none, some}
 use Prim.Native.Nat.{ℕ, zero, suc, _-_, _≤_, _<_}
 use lib.ListN.{length, getD}
@@ -10,7 +9,7 @@ use Rattle.rules.specs.Lists.{if_then_else_, within}
 use Rattle.rules.specs.Queue as Q
 use Rattle.rules.specs.Queue.{emptyQueue}
 use Rattle.queue.specs.declared.Queue.{Queue}
-use Rattle.queue.specs.Model.{noQueue, waiting}
+use Rattle.queue.specs.Model.{waiting}
 
 -- 0: none
 abbrev pub viewLast : ℕ → Option ℕ

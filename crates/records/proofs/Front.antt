@@ -1,12 +1,12 @@
 -- A part moved to the front, byte by byte: those that are still to move are as they were, since each is read at or behind the place where it goes.
 -- Assumes nothing.
-use mathlib.Core.List.{List, [], _∷_, _++_}
+use mathlib.Core.List.{List, _++_}
 use mathlib.Core.Path.{_≡_, refl, ap, sym, _∙_}
 use Prim.Native.Nat.{ℕ, suc, _+_, _-_, _≤_, _<_}
 use native.Mathlib.Nat.{add-comm}
 use native.Mathlib.Omega.{arith}
 use native.Mathlib.Numerals.{add-one}
-use lib.ListN.{length, take, drop, getD, set, length-append, length-drop}
+use lib.ListN.{length, take, drop, getD, set, length-drop}
 use lib.Seq.{length-take-le, take-suc, drop-cons, getD-drop, getD-append-add, set-at, append-snoc}
 use borrow.Author.Tests.{le-leb, lt-leb}
 use Rattle.rules.specs.Lists.{if_then_else_}

@@ -10,9 +10,7 @@ use lib.ListN.{length}
 use borrow.Author.Tests.{lt-ltb, le-ltb, le-leb, lt-leb, ltb-false}
 use Rattle.rules.specs.Lists.{if_then_else_}
 use Rattle.rules.specs.Frames.{byteAt, twoAt}
-use Rattle.records.specs.declared.Next.{Next}
 use Rattle.records.specs.declared.Next.the-variants.{Record, Need, Cut}
-use Rattle.records.specs.declared.Receiver.{Receiver}
 use Rattle.records.specs.declared.Receiver.the-variants.{Board, Shard, Nobody}
 use Rattle.records.specs.Records.{nextOf, receiverOf}
 

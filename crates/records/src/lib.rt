@@ -2,7 +2,6 @@
 //
 // Each function's result is determined for every input by a function of specs/.
 ghost use mathlib.Core.Path.{_≡_};
-ghost use mathlib.Core.Bool.{Bool};
 ghost use lib.ListN.{length};
 ghost use Rattle.records.specs.Records.{usableOf, nextOf, receiverOf};
 ghost use Rattle.records.specs.Front.{partLength, frontOf};

@@ -1,7 +1,7 @@
 -- The walks of the thin functions, one for each shape of their parameters: the locals are laid out, the borrow is opened, the callee is
 -- called, and `Lent.finish` goes on from there. Of the callee a walk knows only what it asks and what it gives.
 -- Assumes nothing.
-use mathlib.Core.Path.{_≡_, refl}
+use mathlib.Core.Path.{refl}
 use Prim.Native.Nat.{ℕ, zero, suc, _+_, _<_, _^_}
 use mathlib.Core.List.{List, [], _∷_, _++_}
 use lib.ListN.{replicate}
@@ -11,7 +11,7 @@ use lib.Dec.{T as IsTrue}
 use mir.Syntax.{Name, Ty, tyInt, tyRef, tyNamed, mut, named, erased, w8, deref, field as fieldˢ, place, Opd, copy, rvOpd, addrOf, aggregate, seq, assign, call, Fn, local, valueLocal}
 use mir.Val.{Val, vptr, vint, WT, hasTy}
 use base.Logic.{SProp, ent, id⊢}
-use base.Fml.{Fml, GName, Lft, Share, fsep, flft, fobs, fauth, fobor, fat}
+use base.Fml.{Fml, GName, Lft, Share, fsep, flft, fobs, fauth, fobor}
 use prog.Wp.{Heap, Calls, Loops, WpFn}
 use ghost.Atoms.{Atoms}
 use sound.WpLaws.{FmC}
@@ -21,7 +21,7 @@ use types.Run.{look, look-raw, init, stop, hop, fld, from, load, addr, of-opd, a
 use types.Part.{whole, sub, look-in, agg}
 use denote.Laws.{Is, shows}
 use denote.Memory.{mem, cellAt}
-use denote.Ref.{RefT, MutRef}
+use denote.Ref.{MutRef}
 use denote.Slice.{sliceTy, sliceVal}
 use denote.Steps.{opens, peeks}
 use denote.Struct.Steps.{spelt}

@@ -1,7 +1,7 @@
 -- How a struct lies in memory: its size, its alignment, and the offset and the size of each field.
 -- Assumes nothing.
 use mathlib.Core.Path.{_≡_}
-use mathlib.Core.Option.{Option, none, some}
+use mathlib.Core.Option.{none, some}
 use mathlib.Core.List.{List, [], _∷_}
 use Prim.Native.Nat.{ℕ, zero, suc}
 use mir.Syntax.{Ty}

@@ -2,17 +2,17 @@
 -- Assumes nothing.
 use mathlib.Core.Path.{_≡_, refl, sym, ap, _∙_}
 use mathlib.Core.Logic.{_↔_}
-use mathlib.Core.Bool.{Bool, true, false, _&&_}
+use mathlib.Core.Bool.{Bool, _&&_}
 use mathlib.Core.List.{List, [], _∷_, _++_, map}
 use mathlib.Core.Option.{Option, none, some}
-use Prim.Native.Nat.{ℕ, zero, suc, _+_, _*_, _/_, _%_, _≤_, _<_}
+use Prim.Native.Nat.{ℕ, suc, _+_, _*_, _/_, _%_, _≤_, _<_}
 use native.Mathlib.Nat.{div-div-eq-div-mul, mul-suc, mul-zero}
 use native.Mathlib.Omega.{arith}
-use lib.Dec.{T, leb, eqb, leb→le}
+use lib.Dec.{T, leb, leb→le}
 use lib.ListN.{length, drop, length-append}
 use Rattle.rules.specs.Lists.{if_then_else_, within, every, same}
 use Rattle.rules.specs.Transactions.{Operation, get, put, Write, Placed, Read}
-use Rattle.rules.specs.Frames.{Frame, submit, forward, shardAppend, execNotif, executed, response, okValue, okOperation, okOperations, rising, okPlaced, okSeen, okReads, okClient, okNumber, okInd, okWrite, obeys, two, four, operationBytes, placedBytes, seenBytes, readBytes, backToBack, kindOf, bodyOf, encode, lengthOf, headerOf, headerWidth, twoAt, fourAt, firstOperation, firstPlaced, firstRead, items, candidate, spelled, decode}
+use Rattle.rules.specs.Frames.{Frame, submit, forward, shardAppend, execNotif, executed, response, okValue, okOperation, okOperations, rising, okPlaced, okSeen, okReads, okClient, okNumber, okInd, okWrite, obeys, operationBytes, placedBytes, seenBytes, readBytes, backToBack, bodyOf, encode, lengthOf, headerOf, headerWidth, twoAt, firstOperation, firstPlaced, firstRead, items, candidate, spelled, decode}
 use Rattle.rules.proofs.Lists.{by, if-yes, and, and-l, and-r, nothing, same-eq, same-refl}
 
 -- ---- Bytes that are read as a frame are that frame's bytes, and the frame obeys the rules

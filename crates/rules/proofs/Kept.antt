@@ -2,19 +2,19 @@
 -- Assumes nothing.
 use mathlib.Core.Path.{_≡_, refl, sym, ap, _∙_}
 use mathlib.Core.Logic.{_⊎_, inl, inr}
-use mathlib.Core.Bool.{Bool, true, false, not, _&&_}
-use mathlib.Core.List.{List, [], _∷_, _++_, map}
+use mathlib.Core.Bool.{Bool, true, false, not}
+use mathlib.Core.List.{List, [], _∷_}
 use mathlib.Core.Option.{Option, none, some}
-use Prim.Native.Nat.{ℕ, zero, suc, _+_, _≤_, _<_, max}
+use Prim.Native.Nat.{ℕ, zero, suc, _<_}
 use native.Mathlib.Omega.{arith}
-use lib.Dec.{T, ltb, eqb, lt→ltb, eqb→eq}
+use lib.Dec.{T, eqb, lt→ltb, eqb→eq}
 use lib.ListN.{length, set, length-append, length-set, length-map}
-use Rattle.rules.specs.Lists.{if_then_else_, at, snoc, below, changed, has, strike}
-use Rattle.rules.specs.Transactions.{Write, Read, touched, touches}
+use Rattle.rules.specs.Lists.{if_then_else_, at, snoc, below, has}
+use Rattle.rules.specs.Transactions.{Write, touched, touches}
 use Rattle.rules.specs.Outcomes.{Outcome, taken, refuse}
-use Rattle.rules.specs.Queue.{Queue, emptyQueue, enqueue, takeUpTo}
+use Rattle.rules.specs.Queue.{Queue, enqueue}
 use Rattle.rules.specs.Board.{Entry, Board, emptyBoard, start, writes, holding, raiseFloor, onQueues, newEntry, append, settle, serveNew, heardFrom, finished, step}
-use Rattle.rules.specs.Kept.{numbers, above, QueueRule, Kept}
+use Rattle.rules.specs.Kept.{QueueRule, Kept}
 use Rattle.rules.proofs.Lists.{by, nothing, at-lt, at-snoc-cases, at-set-cases, strike-sub, or-cases}
 use Rattle.rules.proofs.Queue.{take-kept, take-last, queued-kept}
 use Rattle.rules.proofs.Steps.{Deed, refused, held, new, heard, done, step-deed}

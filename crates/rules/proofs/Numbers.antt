@@ -14,8 +14,7 @@ use Rattle.rules.specs.Transactions.{Write}
 use Rattle.rules.specs.Outcomes.{Outcome, taken, refuse}
 use Rattle.rules.specs.Board.{Entry, Board, emptyBoard, start, writes, nextNumber, oneFurther, find, holding, raiseFloor, newEntry, append, settle, serveNew, heardFrom, finished, step}
 use Rattle.rules.specs.Kept.{ofClient, Counted, NumbersKept}
-use Rattle.rules.proofs.Lists.{by, if-yes, if-no, and, and-l, and-r, nothing}
-use Rattle.rules.proofs.Frames.{WriteRules}
+use Rattle.rules.proofs.Lists.{by, if-yes, if-no, and, nothing}
 use Rattle.rules.proofs.Steps.{Deed, refused, held, new, heard, done, step-deed}
 use Rattle.rules.proofs.Kept.{writes-snoc, writes-set, at-writes}
 

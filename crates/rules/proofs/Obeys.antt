@@ -4,22 +4,22 @@ use mathlib.Core.Path.{_≡_, refl, sym, ap, _∙_, fun-ext}
 use mathlib.Core.Logic.{_⊎_, inl, inr}
 use mathlib.Core.Bool.{Bool, true, false, not, _&&_, _||_}
 use mathlib.Core.List.{List, [], _∷_, map}
-use mathlib.Core.Option.{Option, none, some}
-use Prim.Native.Nat.{ℕ, zero, suc, _+_, _*_, _≤_, _<_, min, max}
+use mathlib.Core.Option.{some}
+use Prim.Native.Nat.{ℕ, suc, _+_, _*_, _≤_, _<_, min}
 use native.Mathlib.Omega.{arith}
-use lib.Dec.{T, leb, ltb, eqb, leb→le, le→leb, nleb→lt, nltb→le, ltb→lt, eqb→eq, eqb-refl, T-not}
-use lib.ListN.{length, set, length-append, length-set, length-map}
-use Rattle.rules.specs.Lists.{if_then_else_, within, at, snoc, isEmpty, every, same, changed, has, insert, strike}
-use Rattle.rules.specs.Transactions.{Operation, Write, Placed, Read, keyOf, shardOf, touched, touches, placed, keep, onShard, getPlaces, sameOperations, sameWrite}
-use Rattle.rules.specs.Frames.{Frame, submit, forward, shardAppend, execNotif, executed, response, okClient, okNumber, okInd, okSeen, rising, okOperations, okWrite, okPlaced, okReads, obeys, decode}
+use lib.Dec.{T, leb, ltb, eqb, leb→le, le→leb, eqb→eq, eqb-refl, T-not}
+use lib.ListN.{length, length-append, length-set}
+use Rattle.rules.specs.Lists.{if_then_else_, within, at, snoc, isEmpty, every, changed, has, insert, strike}
+use Rattle.rules.specs.Transactions.{Operation, Write, Placed, Read, keyOf, shardOf, touched, touches, placed, keep, onShard, getPlaces}
+use Rattle.rules.specs.Frames.{Frame, shardAppend, okClient, okNumber, okInd, okSeen, rising, okOperations, okWrite, okPlaced, okReads, obeys}
 use Rattle.rules.specs.Outcomes.{Outcome, taken, refuse, sentBytes}
-use Rattle.rules.specs.Board.{Entry, Board, PRE, EXE, isEXE, emptyBoard, start, writes, nextNumber, find, oneMore, touching, holding, raiseFloor, onQueues, newEntry, append, settle, forwardOf, shardAppendOf, backward, onward, serveNew, serveHeld, serveFound, submitStep, forwardStep, fits, addReads, heardFrom, execNotifStep, finished, executedStep, frameStep, readStep, step}
+use Rattle.rules.specs.Board.{Entry, Board, PRE, EXE, isEXE, emptyBoard, start, writes, touching, holding, raiseFloor, newEntry, append, settle, forwardOf, shardAppendOf, backward, onward, serveNew, fits, heardFrom, finished, step}
 use Rattle.rules.specs.Kept.{Kept, EntryKept, SizesKept}
-use Rattle.rules.proofs.Lists.{by, yes-of, if-yes, and, and-l, and-r, or-left, or-right, nothing, same-eq, at-lt, at-snoc-cases, at-set-cases}
-use Rattle.rules.proofs.Frames.{WriteRules, write-rules, Spells, decode-spells}
+use Rattle.rules.proofs.Lists.{by, if-yes, and, and-l, and-r, or-left, or-right, nothing, same-eq, at-lt, at-snoc-cases, at-set-cases}
+use Rattle.rules.proofs.Frames.{WriteRules}
 use Rattle.rules.proofs.Sets.{strike-has, touched-every, touched-range, part-some}
 use Rattle.rules.proofs.Places.{places, operations-few, part-obeys, reads-obey, places-both, add-ok}
-use Rattle.rules.proofs.Room.{Sent, silent, alone, strike-ascends, touched-ascends, parts, parts-most, placed-length, encode-length, frame-room}
+use Rattle.rules.proofs.Room.{Sent, silent, alone, strike-ascends, touched-ascends, parts, parts-most, placed-length, encode-length}
 use Rattle.rules.proofs.Steps.{Deed, refused, held, new, heard, done, step-deed}
 use Rattle.rules.proofs.Kept.{at-writes}
 use Rattle.rules.proofs.Counts.{touching-most, touching-one}

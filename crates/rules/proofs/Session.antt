@@ -1,21 +1,21 @@
 -- Every start gives and every call keeps the window rule, and every Submit that a session sends obeys the rules of frames.
 -- Assumes nothing.
-use mathlib.Core.Path.{_≡_, refl, sym, ap, _∙_}
-use mathlib.Core.Bool.{Bool, true, false, not, _&&_}
+use mathlib.Core.Path.{_≡_, refl}
+use mathlib.Core.Bool.{Bool, not, _&&_}
 use mathlib.Core.List.{List, [], _∷_}
 use mathlib.Core.Option.{Option, none, some}
 use Prim.Native.Nat.{ℕ, zero, suc, _+_, _≤_, _<_}
 use native.Mathlib.Omega.{arith}
-use lib.Dec.{T, leb, ltb, eqb, leb→le, le→leb, nleb→lt, eqb→eq}
+use lib.Dec.{T, leb, eqb, leb→le, le→leb, nleb→lt, eqb→eq}
 use lib.ListN.{length}
-use Rattle.rules.specs.Lists.{if_then_else_, at, snoc, every}
-use Rattle.rules.specs.Transactions.{Operation, Write, Read, placed}
+use Rattle.rules.specs.Lists.{at, snoc, every}
+use Rattle.rules.specs.Transactions.{Operation, Read}
 use Rattle.rules.specs.Frames.{Frame, submit, forward, shardAppend, execNotif, executed, response, okClient, okNumber, okOperations, okWrite, obeys, decode}
 use Rattle.rules.specs.Outcomes.{Outcome, taken, refuse, sentBytes, leastOut}
 use Rattle.rules.specs.Session.{Outstanding, Window, emptyWindow, firstOf, smallest, invoked, without, answered, operationsOf, Session, start, withWindow, submitOf, Asked, allMeant, invokeStep, invoke, sendAgain, retry, Reply, decline, handOver, frameStep, readStep, step}
 use Rattle.rules.specs.Kept.{Rise, WindowKept, SessionKept}
 use Rattle.rules.proofs.Lists.{by, yes-of, and, nothing}
-use Rattle.rules.proofs.Room.{Sent, alone}
+use Rattle.rules.proofs.Room.{alone}
 
 -- ---- The list of outstanding numbers
 

@@ -1,19 +1,19 @@
 -- Whatever arrives, a board's step refuses, or serves a held entry, or appends a new one, or hears from a shard, or finishes an entry.
 -- Each law of all steps is then a law of these five deeds, and only here are the tests of the step split.
 -- Assumes nothing.
-use mathlib.Core.Path.{_≡_, refl, sym, ap, _∙_}
+use mathlib.Core.Path.{_≡_, refl, ap}
 use mathlib.Core.Bool.{Bool, true, false, not, _&&_, _||_}
 use mathlib.Core.List.{List, [], _∷_}
 use mathlib.Core.Option.{Option, none, some}
-use Prim.Native.Nat.{ℕ, zero, suc, _+_, _≤_, _<_}
+use Prim.Native.Nat.{ℕ, _≤_, _<_}
 use native.Mathlib.Omega.{arith}
-use lib.Dec.{T, leb, ltb, eqb, leb→le, nleb→lt, nltb→le, eqb→eq}
+use lib.Dec.{T, ltb, eqb, leb→le, nleb→lt, nltb→le, eqb→eq}
 use lib.ListN.{length}
 use Rattle.rules.specs.Lists.{if_then_else_, within, at, has}
 use Rattle.rules.specs.Transactions.{Operation, get, put, Write, Read, touched, placed, onShard, sameOperation, sameOperations, sameWrite}
 use Rattle.rules.specs.Frames.{Frame, submit, forward, shardAppend, execNotif, executed, response, okInd, okReads, okWrite, obeys, decode}
 use Rattle.rules.specs.Outcomes.{Outcome, taken, refuse}
-use Rattle.rules.specs.Board.{Entry, Board, isEXE, writes, nextNumber, find, raiseFloor, append, newEntry, settle, backward, onward, serveNew, serveHeld, serveFound, submitStep, forwardStep, fits, heardFrom, execNotifStep, finished, executedStep, frameStep, readStep, step}
+use Rattle.rules.specs.Board.{Entry, Board, isEXE, writes, nextNumber, find, raiseFloor, settle, backward, onward, serveNew, serveHeld, serveFound, submitStep, forwardStep, fits, heardFrom, execNotifStep, finished, executedStep, frameStep, readStep, step}
 use Rattle.rules.proofs.Lists.{by, yes-of, and-l, and-r}
 use Rattle.rules.proofs.Frames.{WriteRules, write-rules, decode-spells}
 

@@ -3,11 +3,11 @@
 use mathlib.Core.Bool.{Bool, true, false, not, _&&_}
 use mathlib.Core.List.{List, [], _∷_, map}
 use mathlib.Core.Option.{Option, none, some}
-use Prim.Native.Nat.{ℕ, zero, suc, _+_, min, max}
+use Prim.Native.Nat.{ℕ, zero, suc, min, max}
 use lib.ListN.{length, set}
 use Rattle.rules.specs.Lists.{if_then_else_, _<?_, _≤?_, _=?_, within, at, snoc, isEmpty, changed, same, has, strike}
 use Rattle.rules.specs.Answers.{breaksRule, notForMe, belowFloor, tooEarly, logFull, notInLog, tooLate, doesNotFit, notUsable}
-use Rattle.rules.specs.Transactions.{Operation, Write, Placed, Read, touched, touches, placed, onShard, getPlaces, sameWrite}
+use Rattle.rules.specs.Transactions.{Write, Placed, Read, touched, touches, placed, onShard, getPlaces, sameWrite}
 use Rattle.rules.specs.Frames.{Frame, submit, forward, shardAppend, execNotif, executed, response, decode}
 use Rattle.rules.specs.Outcomes.{Outcome, taken, refuse, unusable}
 use Rattle.rules.specs.Queue.{Queue, emptyQueue, enqueue, takeUpTo}

@@ -1,9 +1,9 @@
 -- What holds at every moment: every start gives it and every step keeps it (proofs/: Kept, Numbers, Obeys, Shard, Session).
 -- Assumes nothing.
 use mathlib.Core.Path.{_≡_}
-use mathlib.Core.Bool.{Bool, true, false, not}
+use mathlib.Core.Bool.{not}
 use mathlib.Core.List.{List, [], _∷_, map}
-use mathlib.Core.Option.{Option, none, some}
+use mathlib.Core.Option.{Option, some}
 use Prim.Native.Nat.{ℕ, suc, pred, _+_, _≤_, _<_}
 use lib.Dec.{T}
 use lib.ListN.{length}

@@ -3,7 +3,7 @@
 use mathlib.Core.Bool.{Bool, true, false, not, _&&_}
 use mathlib.Core.List.{List, [], _∷_}
 use mathlib.Core.Option.{Option, none, some}
-use Prim.Native.Nat.{ℕ, suc, _+_}
+use Prim.Native.Nat.{ℕ, _+_}
 use Rattle.rules.specs.Lists.{if_then_else_, _<?_, _≤?_, _=?_, within, every, below}
 use Rattle.rules.specs.Answers.{breaksRule, notForMe, tooEarly, tooLate, doesNotFit, notUsable}
 use Rattle.rules.specs.Transactions.{Placed, Store, keyOf, shardOf, storeAfter, readsOf}

@@ -1,7 +1,7 @@
 // A shard group, by value: its cells, its start and its step. What the functions do stands in specs/Model.antt, what that
 // means in the rules' words in specs/View.antt, and what follows of every start and step in proofs/Promises.antt.
 ghost use mathlib.Core.Path.{_≡_};
-ghost use mathlib.Core.Bool.{Bool, true, false};
+ghost use mathlib.Core.Bool.{true, false};
 ghost use Prim.Native.Nat.{_≤_};
 ghost use lib.ListN.{length, take};
 ghost use Rattle.shard.specs.Model.{emptyShard, startOf, mine, allMine, refused, judge, readOf, noReads, noted, cellAfter, execNotif, stepOf, outOf};

@@ -4,7 +4,7 @@ use mathlib.Core.List.{List, [], _∷_, _++_, map}
 use mathlib.Core.Option.{Option, none, some}
 use Prim.Native.Nat.{ℕ}
 use Prim.Native.String.{String}
-use Rattle.rules.specs.Transactions.{get, put, Operation, Write, Read}
+use Rattle.rules.specs.Transactions.{get, put, Write}
 use Rattle.rules.specs.Frames.{Frame, submit, forward, shardAppend, execNotif, executed, response, encode}
 use Rattle.rules.specs.Outcomes.{Outcome}
 use Rattle.rules.specs.Queue.{Queue}

@@ -2,7 +2,7 @@
 // All is decided here on small parts, an entry, the client's floor and next number, the log's length; no board is in sight.
 // Each function's result is determined for every input by a function of specs/Model.antt.
 ghost use mathlib.Core.Path.{_≡_};
-ghost use mathlib.Core.Bool.{Bool, true, false};
+ghost use mathlib.Core.Bool.{true, false};
 ghost use Rattle.verdict.specs.Model.{nextOf, floorOf, refuseOf, newOf, heldOf, judgeSubmit, judgeForward, judgeExecNotif, judgeExecuted, judgeOf};
 use entry::Entry;
 use frames::Head;

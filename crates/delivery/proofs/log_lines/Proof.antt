@@ -1,9 +1,9 @@
 -- Before each turn `log_lines` has laid the lines of the entries that it passed.
 -- Assumes nothing.
-use mathlib.Core.Path.{_≡_, refl}
-use Prim.Native.Nat.{_-_, _≤_}
+use mathlib.Core.Path.{refl}
+use Prim.Native.Nat.{_-_}
 use native.Mathlib.Omega.{arith}
-use lib.ListN.{length, length-take}
+use lib.ListN.{length-take}
 use Rattle.delivery.proofs.Logs.{Logged, logged-at-first, logged-on, logged-all, logged-none, places}
 use borrow.Author.Needs.{needs}
 use Rattle.delivery.proofs.log_lines.Statement.{statement}

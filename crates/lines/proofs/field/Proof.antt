@@ -1,9 +1,6 @@
 -- `field` puts a number's digits and one byte more: two parts, one behind the other.
 -- Assumes nothing.
 use native.Mathlib.Omega.{arith}
-use lib.ListN.{length-append}
-use mathlib.Core.List.{[], _∷_}
-use Rattle.lines.specs.Text.{decimalOf}
 use Rattle.lines.proofs.Parts.{then, long}
 use Rattle.lines.proofs.Digits.{decimal-few}
 use borrow.Author.Needs.{needs}

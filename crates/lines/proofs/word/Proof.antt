@@ -3,7 +3,7 @@
 use Prim.Native.Nat.{_+_, _-_, _≤_}
 use native.Mathlib.Omega.{arith}
 use lib.ListN.{length, take}
-use lib.Seq.{take-length, take-all}
+use lib.Seq.{take-all}
 use borrow.Author.Needs.{needs}
 use Rattle.lines.specs.Area.{Put}
 use Rattle.lines.proofs.Parts.{begun, next, long}

@@ -1,7 +1,6 @@
 -- The three answers, from what start and step promise of each call.
 -- Assumes nothing.
 use native.Mathlib.Omega.{arith}
-use Prim.Native.Nat.{_-_}
 use Rattle.shard_situations.proofs.Play.{played-E}
 use borrow.Author.Needs.{needs}
 use Rattle.shard_situations.proofs.play_e.Statement.{statement}

@@ -1,6 +1,5 @@
 -- The answer and the bytes that go out, from what start and step promise.
 -- Assumes nothing.
-use Prim.Native.Nat.{_-_}
 use Rattle.shard_situations.proofs.Play.{played-G}
 use borrow.Author.Needs.{needs}
 use Rattle.shard_situations.proofs.play_g.Statement.{statement}
