@@ -28,8 +28,8 @@ pub record Entry : Type 0 where
   pub reads : List Read
   pub remaining : List ℕ
 
--- Board own of n, with m shard groups; 004's L_i, W_i and C_i are the log, Q_i|j the queue of shard j, floor is by client.
--- An entry's log number is its place in the log.
+-- Board own of n, with m shard groups; floor is by client, queue by shard. An entry's log number is its place in the log.
+-- 004's L_i, W_i and C_i are the log, Q_i|j is the queue of shard j; SSN_i and high are counted from the log: touching, nextNumber.
 pub record Board : Type 0 where
   pub started : Bool
   pub n : ℕ
@@ -39,12 +39,12 @@ pub record Board : Type 0 where
   pub floor : ℕ → ℕ
   pub queue : ℕ → Queue
 
--- "floor .. (0 at start)", "the last number taken from it (none at start)"
+-- no entry; "floor .. (0 at start)", "the last number taken from it (none at start)"
 unfoldable pub emptyBoard : Bool → ℕ → ℕ → ℕ → Board
 emptyBoard started n m own =
     record { started = started; n = n; m = m; own = own; log = []; floor = λ client. 0; queue = λ shard. emptyQueue }
 
--- "A refused start hands back an empty state marked as not started"
+-- "Boards n: 2..8, numbered 1 (head) to n (tail). Shard groups m: 1..8"; "A refused start hands back an empty state marked as not started"
 unfoldable pub start : ℕ → ℕ → ℕ → Outcome Board
 start n m own =
     if within 2 8 n && within 1 8 m && within 1 n own then taken (emptyBoard true n m own) [] else
@@ -64,20 +64,20 @@ abbrev pub nextNumber : ℕ → List Write → ℕ
 nextNumber client [] = 0
 nextNumber client (w ∷ ws) = if w.client =? client then max (suc w.number) (nextNumber client ws) else nextNumber client ws
 
--- the log number under which a client's number is held: there is one at the most (only-once, in proofs/Numbers)
 abbrev pub oneFurther : Option ℕ → Option ℕ
 oneFurther none = none
 oneFurther (some ind) = some (suc ind)
 
+-- the log number under which a client's number is held: there is one at the most (only-once, in proofs/Numbers)
 abbrev pub find : ℕ → ℕ → List Write → Option ℕ
 find client number [] = none
 find client number (w ∷ ws) = if w.client =? client && w.number =? number then some 0 else oneFurther (find client number ws)
 
--- how many of the first q entries touch shard j, "gets included"
 abbrev pub oneMore : ℕ → ℕ → Option Write → ℕ → ℕ
 oneMore m j none count = count
 oneMore m j (some w) count = if touches m j w.operations then suc count else count
 
+-- how many of the first q entries touch shard j, "gets included"
 abbrev pub touching : ℕ → ℕ → List Write → ℕ → ℕ
 touching m j ws zero = 0
 touching m j ws (suc q) = oneMore m j (at ws q) (touching m j ws q)
@@ -88,7 +88,7 @@ touching m j ws (suc q) = oneMore m j (at ws q) (touching m j ws q)
 unfoldable pub holding : List Entry → (ℕ → ℕ) → (ℕ → Queue) → Board → Board
 holding log floor queue b = record { started = b.started; n = b.n; m = b.m; own = b.own; log = log; floor = floor; queue = queue }
 
--- "Floor becomes the larger of floor and ack"
+-- "Floor becomes the larger of floor and ack"; AppendTransact, line 12, but nothing is removed
 unfoldable pub raiseFloor : ℕ → ℕ → Board → Board
 raiseFloor client ack b = holding b.log (changed b.floor client (max (b.floor client) ack)) b.queue b
 
@@ -100,18 +100,20 @@ onQueues shards change queue = λ j. if has j shards then change (queue j) else 
 unfoldable pub newEntry : ℕ → Write → Entry
 newEntry m w = record { write = w; status = PRE; reads = []; remaining = touched m w.operations }
 
--- "append as PRE, queue it for each touched shard"; AppendTransact, lines 9 to 20.
+-- "append as PRE, queue it for each touched shard"; AppendTransact, lines 9 to 11 and 13 to 20.
 -- Other than 004, line 15, which asks for T^write: a shard that only gets touch takes part too.
 unfoldable pub append : Write → Board → Board
 append w b = holding (snoc b.log (newEntry b.m w)) b.floor (onQueues (touched b.m w.operations) (enqueue (length b.log)) b.queue) b
 
--- "Take up to the log number" on the queues of some shards, and the entry there as it then stands; ExecNotif, lines 1 to 4
+-- "Take up to the log number" on the queues of some shards, and put the entry e there; ExecNotif, lines 1 to 3, and
+-- ExecAppendTransact, lines 2 to 6
 unfoldable pub settle : ℕ → Entry → List ℕ → Board → Board
 settle ind e shards b = holding (set b.log ind e) b.floor (onQueues shards (takeUpTo ind) b.queue) b
 
 -- ---- What a step sends
 
--- "Forward carries the smaller of the sender's floor and the number as ack"
+-- "Forward carries the smaller of the sender's floor and the number as ack". Other than 004, line 27, which sends ackBound on, and no
+-- log number.
 unfoldable pub forwardOf : Board → ℕ → Write → Frame
 forwardOf b ind w = forward ind w (min (b.floor w.client) w.number)
 
@@ -135,14 +137,14 @@ onward b ind e =
 
 -- ---- Submit at board 1, Forward at board i ≥ 2: AppendTransact
 
--- "New: append and queue. Then" onward
+-- "Floor as above. New: append and queue. Then" onward
 unfoldable pub serveNew : Board → Write → ℕ → Outcome Board
 serveNew b w ack =
     let after = append w (raiseFloor w.client ack b) in
     taken after (onward after (length b.log) (newEntry b.m w))
 
 -- "Then, new or held": onward again, if the held entry has the same client, number and operations. What goes on is the held entry.
--- No state of a run comes to the clause for none: a number below the log's length is in the log.
+-- No state of a run comes to the clause for none: a log number below the log's length is in the log (at-some, in proofs/Lists).
 unfoldable pub serveHeld : Board → ℕ → Write → ℕ → Option Entry → Outcome Board
 serveHeld b ind w ack none = refuse doesNotFit b
 serveHeld b ind w ack (some e) =
@@ -150,7 +152,7 @@ serveHeld b ind w ack (some e) =
     let after = raiseFloor w.client ack b in
     taken after (onward after ind e)
 
--- No state of a run comes to the clause for none: every number up to high is held (found, in proofs/Numbers).
+-- A client's number up to high is held somewhere. No state of a run comes to the clause for none (find-stands, in proofs/Numbers).
 unfoldable pub serveFound : Board → Write → ℕ → Option ℕ → Outcome Board
 serveFound b w ack none = refuse doesNotFit b
 serveFound b w ack (some ind) = serveHeld b ind w ack (at b.log ind)
@@ -175,7 +177,7 @@ forwardStep b ind w ack =
 
 -- ---- ExecNotif at the tail
 
--- "read places .. exactly the places of the entry's gets"
+-- "read places .. exactly the places of the entry's gets": on that shard (kind 4), or all (kinds 5, 6)
 abbrev pub fits : List Read → List Placed → Bool
 fits rs xs = same (map (λ (r : Read). r .place) rs) (getPlaces xs)
 
@@ -194,7 +196,7 @@ heardFrom j rs e =
     let left = strike j e.remaining in
     record { write = e.write; status = if isEmpty left then EXE else PRE; reads = addReads rs e.reads; remaining = left }
 
--- "Take up to the log number on that shard's queue .. When none remains: .. Executed goes to n−1"; refusals 6, 7, 8
+-- "Take up to the log number on that shard's queue .. When none remains: EXE, and Executed goes to n−1"; ExecNotif. Refusals 6, 7, 8
 unfoldable pub execNotifStep : Board → ℕ → ℕ → List Read → Option Entry → Outcome Board
 execNotifStep b j ind rs none = refuse notInLog b
 execNotifStep b j ind rs (some e) =
@@ -205,11 +207,11 @@ execNotifStep b j ind rs (some e) =
 
 -- ---- Executed at board i < n: ExecAppendTransact
 
--- "EXE, store the reads, remaining empty"
+-- "EXE, store the reads, remaining empty"; ExecAppendTransact, lines 7 and 8
 unfoldable pub finished : List Read → Entry → Entry
 finished rs e = record { write = e.write; status = EXE; reads = rs; remaining = [] }
 
--- "Take up to the log number on each touched shard's queue; .. Then Executed to i−1, or ..": refusals 6, 7, 8
+-- "Take up to the log number on each touched shard's queue; .. Then Executed to i−1, or from the head Response". Refusals 6, 7, 8
 unfoldable pub executedStep : Board → ℕ → List Read → Option Entry → Outcome Board
 executedStep b ind rs none = refuse notInLog b
 executedStep b ind rs (some e) =
@@ -219,7 +221,8 @@ executedStep b ind rs (some e) =
 
 -- ---- A board's step
 
--- refusal 2: "the kind isn't for this receiver; or shard .. exceeds m (kind 4)"
+-- refusal 2: "the kind isn't for this receiver; or shard .. exceeds m (kind 4)". The column "to" of the table of frames: kind 1 is for
+-- the head, 2 for every other board, 4 for the tail, 5 for every board but the tail.
 unfoldable pub frameStep : Board → Frame → Outcome Board
 frameStep b (submit w ack) = if b.own =? 1 then submitStep b w ack else refuse notForMe b
 frameStep b (forward ind w ack) = if 2 ≤? b.own then forwardStep b ind w ack else refuse notForMe b

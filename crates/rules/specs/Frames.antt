@@ -8,6 +8,7 @@ use lib.ListN.{length, getD, drop}
 use Rattle.rules.specs.Lists.{if_then_else_, _≤?_, _=?_, within, every, same}
 use Rattle.rules.specs.Transactions.{Operation, get, put, Write, Placed, Read}
 
+-- the table's rows: kind, from and to, body; behind the colon 004's procedure that such a frame calls
 pub data Frame : Type 0 where
   -- kind 1, client to head: AppendTransact; ack is its ackBound
   submit : (write : Write) (ack : ℕ) → Frame
@@ -24,19 +25,23 @@ pub data Frame : Type 0 where
 
 -- ---- The rules of "Sizes" and "Frames": refusal 1 is given exactly where one is broken
 
+-- "Clients 0..15"
 abbrev pub okClient : ℕ → Bool
 okClient client = client ≤? 15
 
+-- "A client's write numbers: 0..65,534"
 abbrev pub okNumber : ℕ → Bool
 okNumber number = number ≤? 65534
 
--- "log number 0..255"
+-- "Log numbers 0..255"
 abbrev pub okInd : ℕ → Bool
 okInd ind = ind ≤? 255
 
+-- "Values are 0..4,294,967,295"
 abbrev pub okValue : ℕ → Bool
 okValue value = value ≤? 4294967295
 
+-- "Keys 0..255"
 abbrev pub okOperation : Operation → Bool
 okOperation (get key) = key ≤? 255
 okOperation (put key value) = key ≤? 255 && okValue value
@@ -49,11 +54,12 @@ okOperations os = within 1 4 (length os) && every okOperation os
 unfoldable pub okWrite : Write → ℕ → Bool
 okWrite w ack = okClient w.client && okNumber w.number && ack ≤? w.number && w.number ≤? ack + 7 && okOperations w.operations
 
--- "Places rise strictly", the first at least p and none above 3
+-- "Places rise strictly", the first at least p; "place 0..3"
 abbrev pub rising : ℕ → List ℕ → Bool
 rising p [] = true
 rising p (q ∷ qs) = within p 3 q && rising (suc q) qs
 
+-- "c is 1..4", of placed operations
 unfoldable pub okPlaced : List Placed → Bool
 okPlaced xs = within 1 4 (length xs) && rising 0 (map (λ (x : Placed). x .place) xs) && every (λ x. okOperation (x .operation)) xs
 
@@ -65,6 +71,7 @@ okSeen (some value) = okValue value
 unfoldable pub okReads : List Read → Bool
 okReads rs = length rs ≤? 4 && rising 0 (map (λ (r : Read). r .place) rs) && every (λ r. okSeen (r .value)) rs
 
+-- "Shard is 1..8, sn 1..256, log number 0..255"; whose shard or client it is, is no rule of frames but refusal 2
 unfoldable pub obeys : Frame → Bool
 obeys (submit w ack) = okWrite w ack
 obeys (forward ind w ack) = okInd ind && okWrite w ack
@@ -108,9 +115,11 @@ backToBack bytes (x ∷ xs) = bytes x ++ backToBack bytes xs
 abbrev pub listBytes : {A : Type 0} → (A → List ℕ) → List A → List ℕ
 listBytes bytes xs = length xs ∷ backToBack bytes xs
 
+-- "client 1, number 2, ack 2, operations"
 abbrev pub writeBytes : Write → ℕ → List ℕ
 writeBytes w ack = w.client ∷ two w.number ++ two ack ++ listBytes operationBytes w.operations
 
+-- the columns "kind" and "body" of the table
 abbrev pub kindOf : Frame → ℕ
 kindOf (submit w ack) = 1
 kindOf (forward ind w ack) = 2
@@ -207,6 +216,7 @@ candidate kind body =
     if kind =? 6 then some (response (byteAt body 0) (twoAt body 1) (readsAt body 3)) else
     none
 
+-- a frame that obeys the rules, with these bytes and no other: "Nothing may follow a frame"
 unfoldable pub spelled : List ℕ → Option Frame → Option Frame
 spelled s none = none
 spelled s (some f) = if obeys f && same (encode f) s then some f else none

@@ -15,7 +15,7 @@ use Rattle.rules.specs.Board.{Entry, Board, isEXE, writes, nextNumber}
 use Rattle.rules.specs.Shard.{Shard}
 use Rattle.rules.specs.Session.{Outstanding, Window, Session, smallest}
 
--- the log numbers touching shard j, the first entry's being q
+-- "the log numbers touching" shard j, rising, the first entry's being q
 abbrev pub numbers : ℕ → ℕ → ℕ → List Write → List ℕ
 numbers m j q [] = []
 numbers m j q (w ∷ ws) = if touches m j w.operations then q ∷ numbers m j (suc q) ws else numbers m j (suc q) ws
@@ -25,16 +25,17 @@ abbrev pub above : Option ℕ → List ℕ → List ℕ
 above last [] = []
 above last (x ∷ xs) = if below last x then x ∷ above last xs else above last xs
 
--- "a shard's queue is exactly the log numbers touching it that are above the last taken one, rising".
--- Other than 004, Figure 1, item 2, which says: exactly the PRE entries. That is false when answers arrive out of order.
-abbrev pub QueueRule : ℕ → ℕ → List Write → Queue → Type 0
-QueueRule m j ws q = q.waiting ≡ above q.lastTaken (numbers m j 0 ws)
-
--- those that are not, which were taken
+-- those that are not, which were taken; "So touching entries = taken + queued": touching-is, in proofs/Counts
 abbrev pub upTo : Option ℕ → List ℕ → List ℕ
 upTo last [] = []
 upTo last (x ∷ xs) = if below last x then upTo last xs else x ∷ upTo last xs
 
+-- "At every moment a shard's queue is exactly the log numbers touching it that are above the last taken one, rising".
+-- Other than 004, Figure 1, item 2, which says: exactly the PRE entries. That is false when answers arrive out of order.
+abbrev pub QueueRule : ℕ → ℕ → List Write → Queue → Type 0
+QueueRule m j ws q = q.waiting ≡ above q.lastTaken (numbers m j 0 ws)
+
+-- of queues and remaining shards
 pub record Kept (b : Board) : Type 0 where
   pub queues : (j : ℕ) → QueueRule (b .m) j (writes (b .log)) (b .queue j)
   -- the last taken number is in the log
@@ -42,6 +43,7 @@ pub record Kept (b : Board) : Type 0 where
   -- an entry's remaining shards are among those that it touches
   pub remains : (ind : ℕ) (e : Entry) (j : ℕ) → at (b .log) ind ≡ some e → T (has j (e .remaining)) → T (touches (b .m) j (e .write .operations))
 
+-- numbers that rise, from low on
 abbrev pub Ascending : ℕ → List ℕ → Type 0
 Ascending low [] = Unit {0}
 Ascending low (x ∷ xs) = (low ≤ x) × Ascending (suc x) xs
@@ -57,7 +59,7 @@ pub record EntryKept (m : ℕ) (e : Entry) : Type 0 where
   pub status : isEXE (e .status) ≡ isEmpty (e .remaining)
   pub remaining : Ascending 0 (e .remaining)
 
--- "a log holds at most 256 entries"
+-- of sizes: "a log holds at most 256 entries"
 pub record SizesKept (b : Board) : Type 0 where
   pub setup : T (b .started) → (1 ≤ b .m) × (b .m ≤ 8)
   pub size : length (b .log) ≤ 256
@@ -73,12 +75,14 @@ abbrev pub Counted : ℕ → List Write → Type 0
 Counted k [] = Unit {0}
 Counted k (w ∷ ws) = (w.number ≡ k) × Counted (suc k) ws
 
+-- of clients' numbers
 pub record NumbersKept (b : Board) : Type 0 where
   -- the numbers of a client in the log are 0, 1, 2, .., high, in this order, each once
   pub counted : (c : ℕ) → Counted 0 (ofClient c (writes (b .log)))
   -- the floor is at most high, or 0
   pub floors : (c : ℕ) → b .floor c ≤ pred (nextNumber c (writes (b .log)))
 
+-- of a shard group; keys with values that obey the rules of "Sizes"
 pub record ShardKept (s : Shard) : Type 0 where
   pub setup : T (s .started) → (1 ≤ s .own) × (s .own ≤ 8)
   pub values : (key : ℕ) → T (okSeen (valueOf (s .store key)))

@@ -22,10 +22,6 @@ taken state frames = record { answer = done; state = state; frames = frames }
 unfoldable pub refuse : {State : Type 0} → ℕ → State → Outcome State
 refuse number state = record { answer = number; state = state; frames = [] }
 
--- "the counts of frames and bytes are returned"; of a refusal both are 0
-abbrev pub frameCount : {State : Type 0} → Outcome State → ℕ
-frameCount o = length (o .frames)
-
 -- "its frames stand back to back ..
 abbrev pub sentBytes : List Frame → List ℕ
 sentBytes frames = backToBack encode frames
@@ -34,11 +30,15 @@ sentBytes frames = backToBack encode frames
 abbrev pub outAfter : List Frame → List ℕ → List ℕ
 outAfter frames out = sentBytes frames ++ drop (length (sentBytes frames)) out
 
+-- "and the counts of frames and bytes are returned"; of a refusal both are 0
+abbrev pub frameCount : {State : Type 0} → Outcome State → ℕ
+frameCount o = length (o .frames)
+
 abbrev pub byteCount : {State : Type 0} → Outcome State → ℕ
 byteCount o = length (sentBytes (o .frames))
 
 -- "An out area must have at least 68 bytes; no step sends more (the worst: four shards, one operation each, 4 × 17 bytes)";
--- that no step does is the law room of the three Good records in proofs/
+-- that no step does is the law room of Sent, ShardGood and SessionGood, in proofs/
 abbrev pub leastOut : ℕ
 leastOut = 68
 

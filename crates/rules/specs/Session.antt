@@ -17,11 +17,12 @@ use Rattle.rules.specs.Board.{fits}
 abbrev pub windowSize : ℕ
 windowSize = 8
 
+-- an "outstanding number with its operations"
 pub record Outstanding : Type 0 where
   pub number : ℕ
   pub operations : List Operation
 
--- "the next number and each outstanding number with its operations", rising; the paper's cwsn_max + 1 and InProg_cid
+-- "the next number and each outstanding number with its operations", by rising number; 004's cwsn_max + 1 and InProg_cid
 pub record Window : Type 0 where
   pub next : ℕ
   pub outstanding : List Outstanding
@@ -38,15 +39,15 @@ firstOf (o ∷ os) next = o.number
 unfoldable pub smallest : Window → ℕ
 smallest w = firstOf w.outstanding w.next
 
--- "takes the next number, makes it outstanding"
+-- "takes the next number, makes it outstanding"; SessionRuntimeAppend, lines 1 to 3
 unfoldable pub invoked : List Operation → Window → Window
 invoked os w = record { next = suc w.next; outstanding = snoc w.outstanding (record { number = w.next; operations = os }) }
 
--- "makes its number outstanding no more"; SessionRespWrite, line 1
 abbrev pub without : ℕ → List Outstanding → List Outstanding
 without number [] = []
 without number (o ∷ os) = if o.number =? number then without number os else o ∷ without number os
 
+-- "makes its number outstanding no more"; SessionRespWrite, line 1
 unfoldable pub answered : ℕ → Window → Window
 answered number w = record { next = w.next; outstanding = without number w.outstanding }
 
@@ -57,7 +58,7 @@ operationsOf number (o ∷ os) = if o.number =? number then some o.operations el
 
 -- ---- The invoked list, as the lift controller's program hands it over
 
--- "0 get or 1 put (1), key (1), value (4; 0 for get)"
+-- "An operation: 0 get or 1 put (1), key (1), value (4; 0 for get)"
 pub record Asked : Type 0 where
   pub code : ℕ
   pub key : ℕ
@@ -70,29 +71,31 @@ meant a =
     if a.code =? 1 then some (put a.key a.value) else
     none
 
--- a list of operations, if each is meant
 unfoldable pub putBefore : Option Operation → Option (List Operation) → Option (List Operation)
 putBefore none os = none
 putBefore (some o) none = none
 putBefore (some o) (some os) = some (o ∷ os)
 
+-- the operations that are meant, if each is
 abbrev pub allMeant : List Asked → Option (List Operation)
 allMeant [] = some []
 allMeant (a ∷ rest) = putBefore (meant a) (allMeant rest)
 
 -- ---- The session
 
+-- "The session record"; client is its own
 pub record Session : Type 0 where
   pub started : Bool
   pub client : ℕ
   pub window : Window
 
--- "A refused start hands back an empty state marked as not started"
+-- "Clients 0..15"; "A refused start hands back an empty state marked as not started"
 unfoldable pub start : ℕ → Outcome Session
 start client =
     if okClient client then taken (record { started = true; client = client; window = emptyWindow }) [] else
     refuse notUsable (record { started = false; client = 0; window = emptyWindow })
 
+-- a session with this window, otherwise as before
 unfoldable pub withWindow : Window → Session → Session
 withWindow w s = record { started = s.started; client = s.client; window = w }
 

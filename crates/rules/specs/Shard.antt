@@ -23,7 +23,7 @@ pub record Shard : Type 0 where
 unfoldable pub emptyShard : Bool → ℕ → ℕ → Shard
 emptyShard started m own = record { started = started; m = m; own = own; store = λ key. none; ssn = 0; lastRun = none }
 
--- "A refused start hands back an empty state marked as not started"
+-- "Shard groups m: 1..8, numbered from 1"; "A refused start hands back an empty state marked as not started"
 unfoldable pub start : ℕ → ℕ → Outcome Shard
 start m own = if within 1 8 m && within 1 m own then taken (emptyShard true m own) [] else refuse notUsable (emptyShard false 0 0)
 
@@ -32,10 +32,11 @@ start m own = if within 1 8 m && within 1 m own then taken (emptyShard true m ow
 unfoldable pub run : ℕ → ℕ → List Placed → Shard → Shard
 run ind sn xs s = record { started = s.started; m = s.m; own = s.own; store = storeAfter ind s.store xs; ssn = sn; lastRun = some ind }
 
+-- no "key of another shard"
 abbrev pub allMine : Shard → List Placed → Bool
 allMine s xs = every (λ x. shardOf s.m (keyOf (x .operation)) =? s.own) xs
 
--- "ShardAppend with sn = ssn + 1 .. and ExecNotif goes to the tail"; refusals 7, 4, 8.
+-- "ShardAppend with sn = ssn + 1 .. and ExecNotif goes to the tail"; ShardExecAppend. Refusals 7, 4, 8, this last for two causes.
 -- "Where 004 waits, refusal 4 is given and a later copy of the frame serves."
 unfoldable pub appendStep : Shard → ℕ → ℕ → List Placed → Outcome Shard
 appendStep s ind sn xs =

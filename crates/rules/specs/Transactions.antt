@@ -6,7 +6,7 @@ use mathlib.Core.Option.{Option, none, some}
 use Prim.Native.Nat.{ℕ, zero, suc, _+_, _%_}
 use Rattle.rules.specs.Lists.{if_then_else_, _=?_, at, changed, has, insert}
 
--- "1..4 operations, get or put; keys may repeat"; that there are 1 to 4 is a rule of frames and of invoked lists: okOperations
+-- "operations, get or put"; that a list has 1 to 4 of them is a rule of frames and of invoked lists: okOperations
 pub data Operation : Type 0 where
   get : (key : ℕ) → Operation
   put : (key value : ℕ) → Operation
@@ -17,7 +17,7 @@ pub record Write : Type 0 where
   pub number : ℕ
   pub operations : List Operation
 
--- an operation with its place in the transaction's list, 0..3
+-- an operation with its place in the transaction's whole list, counted from 0
 pub record Placed : Type 0 where
   pub place : ℕ
   pub operation : Operation
@@ -37,7 +37,7 @@ keyOf (put key value) = key
 unfoldable pub shardOf : ℕ → ℕ → ℕ
 shardOf m key = key % m + 1
 
--- the shards that the keys touch
+-- the shards that the keys touch, rising; keys of gets too
 abbrev pub touched : ℕ → List Operation → List ℕ
 touched m [] = []
 touched m (o ∷ os) = insert (shardOf m (keyOf o)) (touched m os)
@@ -55,11 +55,11 @@ abbrev pub keep : (ℕ → Bool) → List Placed → List Placed
 keep ok [] = []
 keep ok (x ∷ xs) = if ok (keyOf x.operation) then x ∷ keep ok xs else keep ok xs
 
--- the sub-transaction T|j, its places those in T
+-- 004's sub-transaction T|j: the operations on shard j, their places those in T
 abbrev pub onShard : ℕ → ℕ → List Operation → List Placed
 onShard m j os = keep (λ key. shardOf m key =? j) (placed 0 os)
 
--- the places of the gets
+-- "the places of the .. gets"
 abbrev pub getPlace : Placed → Operation → List ℕ → List ℕ
 getPlace x (get key) ps = x.place ∷ ps
 getPlace x (put key value) ps = ps
@@ -79,29 +79,31 @@ pub record Cell : Type 0 where
 abbrev pub Store : Type 0
 Store = ℕ → Option Cell
 
--- line 10: put(key, value, ind)
+-- "Each put stores the value and the log number"; line 10: put(key, value, ind)
 abbrev pub effect : ℕ → Store → Operation → Store
 effect ind store (get key) = store
 effect ind store (put key value) = changed store key (some (record { value = value; ind = ind }))
 
+-- "operations run in list order"
 abbrev pub storeAfter : ℕ → Store → List Placed → Store
 storeAfter ind store [] = store
 storeAfter ind store (x ∷ xs) = storeAfter ind (effect ind store x.operation) xs
 
--- line 11: a get adds what it sees to respData
 abbrev pub valueOf : Option Cell → Option ℕ
 valueOf none = none
 valueOf (some cell) = some cell.value
 
+-- line 11: a get adds what it sees to respData
 abbrev pub note : Placed → Operation → Store → List Read → List Read
 note x (get key) store rs = record { place = x.place; value = valueOf (store key) } ∷ rs
 note x (put key value) store rs = rs
 
+-- "a get sees earlier puts of the same list"
 abbrev pub readsOf : ℕ → Store → List Placed → List Read
 readsOf ind store [] = []
 readsOf ind store (x ∷ xs) = note x x.operation store (readsOf ind (effect ind store x.operation) xs)
 
--- ---- A log run one transaction at a time
+-- ---- A log run one transaction at a time: no step does, demand 3 says that all steps together look so
 
 abbrev pub runEntry : ℕ → Store → Option Write → Store
 runEntry ind store none = store
@@ -116,7 +118,7 @@ storeAfterLog ws (suc q) = runEntry q (storeAfterLog ws q) (at ws q)
 unfoldable pub readsInLog : List Write → ℕ → Write → List Read
 readsInLog ws ind w = readsOf ind (storeAfterLog ws ind) (placed 0 (w .operations))
 
--- ---- The same client, number and operations
+-- ---- "held with another client, number or operations": what is compared
 
 abbrev pub sameOperation : Operation → Operation → Bool
 sameOperation (get k) (get l) = k =? l

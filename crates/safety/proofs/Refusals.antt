@@ -19,7 +19,7 @@ use Rattle.rules.specs.Board as B
 use Rattle.rules.specs.Shard as S
 use Rattle.rules.specs.Session as C
 use Rattle.rules.specs.Kept.{ofClient, Counted}
-use Rattle.rules.proofs.Lists.{by, yes-of, and, and-l, and-r, if-yes, nothing, same-refl}
+use Rattle.rules.proofs.Lists.{by, yes-of, and, and-l, and-r, if-yes, nothing, same-refl, at-some}
 use Rattle.rules.proofs.Frames.{decode-encode}
 use Rattle.rules.proofs.Steps.{ready}
 use Rattle.rules.proofs.Sets.{insert-cases}
@@ -28,7 +28,7 @@ use Rattle.rules.proofs.Numbers.{next-counts, found, find-stands}
 use Rattle.safety.specs.World.{Address, board, shard, client, Packet, World, rules}
 use Rattle.safety.specs.Claim.{invocations, through}
 use Rattle.safety.specs.Further.{answerTo, Expected}
-use Rattle.safety.proofs.Lists.{Under, under-prefix, under-snoc, at-some, all-at}
+use Rattle.safety.proofs.Lists.{Under, under-prefix, under-snoc, all-at}
 use Rattle.safety.proofs.Numbered.{client-yes, invoked-at, firsts-counted}
 use Rattle.safety.proofs.Flight.{Flies}
 use Rattle.safety.proofs.Invariant.{Logs, sees, RightTo, asked, logged, job, heard, ended, told, logsOf}
