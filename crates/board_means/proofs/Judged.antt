@@ -19,7 +19,7 @@ use Rattle.rules.specs.Queue.{takeUpTo}
 use Rattle.rules.specs.Board as B
 use Rattle.rules.specs.Board.{isEXE, PRE, EXE, writes, nextNumber, find, holding, onQueues, raiseFloor, append, newEntry, settle, backward, onward, serveNew, serveHeld, serveFound, submitStep, forwardStep, heardFrom, execNotifStep, finished, executedStep, logSize}
 use Rattle.rules.specs.Kept.{ofClient, Counted}
-use Rattle.rules.proofs.Lists.{by, if-yes, if-no, yes-of, nothing, at-lt, strike-sub, T-true}
+use Rattle.rules.proofs.Lists.{by, if-yes, if-no, yes-of, nothing, at-lt, strike-sub, T-true, at-snoc-new}
 use Rattle.rules.proofs.Frames.{WriteRules}
 use Rattle.rules.proofs.Steps.{same-write}
 use Rattle.rules.proofs.Numbers.{find-stands}
@@ -45,7 +45,7 @@ use Rattle.board.specs.declared.Board.{Board}
 use Rattle.board.specs.Model as M
 use Rattle.board.specs.Model.{entryAt, nameOf, positionOf, framesOf, boardAfter, takenStep, judgedStep}
 use Rattle.board_means.specs.View.{entriesOf, viewLog, viewBoard, nameIn, maskIn, Columns, Held}
-use Rattle.board_means.proofs.Slots.{set-same, at-map, at-none, at-set, at-end}
+use Rattle.board_means.proofs.Slots.{set-same, at-map, at-none, at-set}
 use Rattle.board_means.proofs.Numbers as N
 use Rattle.board_means.proofs.Numbers.{placeIn, find-is}
 use Rattle.board_means.proofs.Changes.{floor-still, no-queues, verdict, newVerdict, entries-length, view-length, old-entry, entries-replaced, replaced-columns, replaced-view, entries-longer, longer-columns, longer-view}
@@ -267,7 +267,7 @@ module _ (b : Board) (held : Held b) (ready : T (b .started)) (lo : 1 ≤ b .m) 
     at-its-end : at (entriesOf longer) (b .len) ≡ some fresh
     at-its-end =
         ap (λ (x : List Entry). at x (b .len)) (entries-longer b c client number ack count items lo hi l small next fresh-held)
-        ∙ (ap (at (snoc (entriesOf b) fresh)) (sym (entries-length b c)) ∙ at-end (entriesOf b) fresh)
+        ∙ (ap (at (snoc (entriesOf b) fresh)) (sym (entries-length b c)) ∙ at-snoc-new (entriesOf b) fresh)
 
     theirs : (j : ℕ) → T (has j (setOf (fresh .remaining))) → T (touches (b .m) j (operationsOf (fresh .count) (fresh .items)))
     unfolding newEntryOf

@@ -58,7 +58,3 @@ module _ {A : Type 0} where
   at-set [] i x h = absurd (omega arith)
   at-set (y ∷ l) zero x h = refl
   at-set (y ∷ l) (suc i) x h = at-set l i x (omega arith)
-
-  pub at-end : (l : List A) (x : A) → at (snoc l x) (length l) ≡ some x
-  at-end [] x = refl
-  at-end (y ∷ l) x = at-end l x

@@ -11,14 +11,13 @@ use lib.Dec.{T, leb, leb→le, le→leb}
 use lib.ListN.{length, getD, set, length-set}
 use lib.Seq.{getD-set-same, getD-set-other}
 use Rattle.rules.specs.Lists.{at}
-use Rattle.rules.specs.Transactions.{Operation, get, put, Placed, Read, keyOf, placed, keep, getPlace, getPlaces}
+use Rattle.rules.specs.Transactions.{Operation, get, put, Placed, Read, keyOf, placed, keep, getPlace, getPlaces, gather, gatherOne}
 use Rattle.rules.proofs.Lists.{by, and, and-l, and-r, nothing}
-use Rattle.rules.proofs.Gather.{gather, gatherOne}
 use Rattle.frames.specs.declared.Item.{Item}
 use Rattle.frames.specs.Frames.{noItem, okItem, okFrom}
 use Rattle.frames.specs.View.{asRead}
 use Rattle.entry.specs.Model.{storedAll}
-use Rattle.entry.specs.View.{saw, readAt, readsAt, isGet}
+use Rattle.entry.specs.View.{saw, isGet}
 
 -- a slot
 abbrev slot : List Item → ℕ → Item
@@ -72,14 +71,14 @@ no-cons : {A : Type 0} {x : ℕ} {xs : List ℕ} → _≡_ {A = List ℕ} (x ∷
 no-cons e = let z : _≡_ {A = ℕ} 0 1 = cc in absurd (omega arith)
 
 pub stored-reads : (q : ℕ) (xs : List Placed) (slots rs : List Item) → T (okFrom q (length rs) rs) → length slots ≡ 4 → placesOf rs ≡ getPlaces xs
-    → readsAt xs (saw (storedAll slots rs)) ≡ map asRead rs
+    → gather xs (saw (storedAll slots rs)) ≡ map asRead rs
 stored-reads q [] slots [] h n e = refl
 stored-reads q [] slots (r ∷ rs) h n e = no-cons e
 stored-reads q (x ∷ xs) slots rs h n e = go x.operation rs h e (λ slots′ q′ rs′ h′ n′ e′. stored-reads q′ xs slots′ rs′ h′ n′ e′)
   where
     go : (o : Operation) (rs : List Item) → T (okFrom q (length rs) rs) → placesOf rs ≡ getPlace x o (getPlaces xs)
-        → ((slots : List Item) (q : ℕ) (rs : List Item) → T (okFrom q (length rs) rs) → length slots ≡ 4 → placesOf rs ≡ getPlaces xs → readsAt xs (saw (storedAll slots rs)) ≡ map asRead rs)
-        → readAt x o (saw (storedAll slots rs)) (readsAt xs (saw (storedAll slots rs))) ≡ map asRead rs
+        → ((slots : List Item) (q : ℕ) (rs : List Item) → T (okFrom q (length rs) rs) → length slots ≡ 4 → placesOf rs ≡ getPlaces xs → gather xs (saw (storedAll slots rs)) ≡ map asRead rs)
+        → gatherOne x o (saw (storedAll slots rs)) (gather xs (saw (storedAll slots rs))) ≡ map asRead rs
     go (put key value) rs h e ih = ih slots q rs h n e
     go (get key) [] h e ih = no-cons (sym e)
     go (get key) (r ∷ rs) h e ih =
@@ -178,23 +177,15 @@ module _ (Q : Item → Type 0) (s : ℕ → Bool) where
 
 pub same-reads : (t : ℕ → Bool) (p : ℕ) (os : List Operation) (see saw : ℕ → Option ℕ)
     → ((k i : ℕ) (o : Operation) → k ≡ p + i → at os i ≡ some o → T (isGet o) → T (t (keyOf o)) → see k ≡ saw k)
-    → readsAt (keep t (placed p os)) see ≡ readsAt (keep t (placed p os)) saw
+    → gather (keep t (placed p os)) see ≡ gather (keep t (placed p os)) saw
 same-reads t p [] see saw h = refl
 same-reads t p (o ∷ os) see saw h =
     let rest = same-reads t (suc p) os see saw (λ k i o d a. h k (suc i) o (omega arith) a) in
-    by (λ (l : List Placed). readsAt l see ≡ readsAt l saw) (t (keyOf o)) (λ u. go o (h p 0 o (omega arith) refl) u rest) (λ u. rest)
+    by (λ (l : List Placed). gather l see ≡ gather l saw) (t (keyOf o)) (λ u. go o (h p 0 o (omega arith) refl) u rest) (λ u. rest)
   where
     go : (o : Operation) → (T (isGet o) → T (t (keyOf o)) → see p ≡ saw p) → T (t (keyOf o))
-        → readsAt (keep t (placed (suc p) os)) see ≡ readsAt (keep t (placed (suc p) os)) saw
-        → readAt (record { place = p; operation = o }) o see (readsAt (keep t (placed (suc p) os)) see)
-        ≡ readAt (record { place = p; operation = o }) o saw (readsAt (keep t (placed (suc p) os)) saw)
+        → gather (keep t (placed (suc p) os)) see ≡ gather (keep t (placed (suc p) os)) saw
+        → gatherOne (record { place = p; operation = o }) o see (gather (keep t (placed (suc p) os)) see)
+        ≡ gatherOne (record { place = p; operation = o }) o saw (gather (keep t (placed (suc p) os)) saw)
     go (get key) f u e = λ i. record { place = p; value = f tt u i } ∷ e i
     go (put key value) f u e = e
-
-pub reads-gather : (xs : List Placed) (see : ℕ → Option ℕ) → readsAt xs see ≡ gather xs see
-reads-gather [] see = refl
-reads-gather (x ∷ xs) see = go x.operation (reads-gather xs see)
-  where
-    go : (o : Operation) → readsAt xs see ≡ gather xs see → readAt x o see (readsAt xs see) ≡ gatherOne x o see (gather xs see)
-    go (get key) e = ap {B = List Read} (λ l. record { place = x.place; value = see x.place } ∷ l) e
-    go (put key value) e = e

@@ -9,11 +9,11 @@ use native.Mathlib.Omega.{arith}
 use lib.Dec.{T, leb, eqb, leb→le, eqb→eq, T-not}
 use lib.ListN.{length, getD, set, take, length-set, length-replicate}
 use Rattle.rules.specs.Lists.{if_then_else_, at, isEmpty, every, has, strike}
-use Rattle.rules.specs.Transactions.{Operation, Write, Read, keyOf, shardOf, touched, placed, keep, onShard, getPlaces}
+use Rattle.rules.specs.Transactions.{Operation, Write, Read, keyOf, shardOf, touched, placed, keep, onShard, getPlaces, gather}
 use Rattle.rules.specs.Frames.{okReads}
 use Rattle.rules.specs.Board as B
 use Rattle.rules.specs.Board.{PRE, EXE, addReads}
-use Rattle.rules.proofs.Lists.{by, and, and-l, and-r, nothing, same-eq, T-false}
+use Rattle.rules.proofs.Lists.{by, and, and-l, and-r, nothing, same-eq, T-false, de-morgan}
 use Rattle.rules.proofs.Frames.{WriteRules}
 use Rattle.rules.proofs.Sets.{strike-has, touched-every}
 use Rattle.rules.proofs.Gather.{gather-both}
@@ -24,10 +24,10 @@ use Rattle.frames.specs.Frames.{noItem, okItem, okFrom, okItems}
 use Rattle.frames.specs.View.{asRead, operationsOf, readsOf, CanonItem, CanonFrom, Canon}
 use Rattle.entry.specs.declared.Entry.{Entry}
 use Rattle.entry.specs.Model.{inMask, insertOf, strikeOf, isEmptyOf, touchedMask, touchedOf, storedAll, storedOf, noItems, newEntryOf, heardFromOf, finishedOf}
-use Rattle.entry.specs.View.{setOf, saw, readsAt, heardKey, writeOf, viewEntry, isGet, ReadOf, EntryHeld}
+use Rattle.entry.specs.View.{setOf, saw, heardKey, writeOf, viewEntry, isGet, ReadOf, EntryHeld}
 use Rattle.entry.proofs.Masks.{bit-room}
 use Rattle.entry.proofs.Sets.{in-set, strike-set, empty-set, touched-set}
-use Rattle.entry.proofs.ByPlace.{Each, After, new, old, stored-reads, after-store, same-reads, reads-gather}
+use Rattle.entry.proofs.ByPlace.{Each, After, new, old, stored-reads, after-store, same-reads}
 
 -- ---- What a frame's reads are
 
@@ -93,7 +93,7 @@ unfolding viewEntry newEntryOf writeOf B.newEntry if_then_else_
 new-view m client number count items lo hi =
     let e = touched-set m count items lo hi in
     let os : List Operation = operationsOf count items in
-    let none : readsAt (keep (heardKey m (setOf (touchedOf m count items))) (placed 0 (operationsOf count items))) (saw noItems) ≡ []
+    let none : gather (keep (heardKey m (setOf (touchedOf m count items))) (placed 0 (operationsOf count items))) (saw noItems) ≡ []
     = rw (e, none-left m (touched m (operationsOf count items)) 0 (operationsOf count items) (touched-every m (operationsOf count items))) refl in
     λ i. record { write = theWrite client number count items; status = PRE; reads = none i; remaining = e i }
 
@@ -145,10 +145,6 @@ module _ (m : ℕ) (e : Entry) (held : EntryHeld m e) (j k : ℕ) (rs : List Ite
   apart : (key : ℕ) → T (mine key) → T (before key) → ⊥
   apart key a b = let q : shardOf m key ≡ j = eqb→eq (shardOf m key) j a in T-not (has j (setOf (e .remaining))) (rw q at b) has-j
 
-  de-morgan : (a b : Bool) → (a || not b) ≡ not (not a && b)
-  de-morgan true b = refl
-  de-morgan false b = refl
-
   -- a key is heard then, if it is the shard's or was heard before
   then-heard : (key : ℕ) → heardKey m (setOf (strikeOf (e .remaining) j)) key ≡ (mine key || before key)
   then-heard key =
@@ -167,16 +163,14 @@ module _ (m : ℕ) (e : Entry) (held : EntryHeld m e) (j k : ℕ) (rs : List Ite
       go (new t x y) = absurd (apart (keyOf o) (and-r (isGet o) (mine (keyOf o)) t) b)
       go (old t x) = x
 
-  heard-reads : readsAt (keep (heardKey m (setOf (strikeOf (e .remaining) j))) (placed 0 os)) (saw slots′)
-      ≡ addReads (readsOf k rs) (readsAt (keep before (placed 0 os)) (saw (e .reads)))
+  heard-reads : gather (keep (heardKey m (setOf (strikeOf (e .remaining) j))) (placed 0 os)) (saw slots′)
+      ≡ addReads (readsOf k rs) (gather (keep before (placed 0 os)) (saw (e .reads)))
   heard-reads =
-      let own : readsAt (keep mine (placed 0 os)) (saw slots′) ≡ readsOf k rs = stored-reads 0 (keep mine (placed 0 os)) (e .reads) (take k rs) rise (held .places) fitting in
-      let rest : readsAt (keep before (placed 0 os)) (saw slots′) ≡ readsAt (keep before (placed 0 os)) (saw (e .reads))
+      let own : gather (keep mine (placed 0 os)) (saw slots′) ≡ readsOf k rs = stored-reads 0 (keep mine (placed 0 os)) (e .reads) (take k rs) rise (held .places) fitting in
+      let rest : gather (keep before (placed 0 os)) (saw slots′) ≡ gather (keep before (placed 0 os)) (saw (e .reads))
       = same-reads before 0 os (saw slots′) (saw (e .reads)) (λ q i o d a g b. let z : q ≡ i = omega arith in rw z (ap (λ (x : Item). asRead x .value) (as-before i o a b))) in
-      ap (λ (ok : ℕ → Bool). readsAt (keep ok (placed 0 os)) (saw slots′)) (fun-ext then-heard)
-      ∙ (reads-gather (keep (λ key. mine key || before key) (placed 0 os)) (saw slots′)
-      ∙ (sym (gather-both mine before apart (saw slots′) 0 os)
-      ∙ (λ i. addReads ((sym (reads-gather (keep mine (placed 0 os)) (saw slots′)) ∙ own) i) ((sym (reads-gather (keep before (placed 0 os)) (saw slots′)) ∙ rest) i))))
+      ap (λ (ok : ℕ → Bool). gather (keep ok (placed 0 os)) (saw slots′)) (fun-ext then-heard)
+      ∙ (sym (gather-both mine before apart (saw slots′) 0 os) ∙ (λ i. addReads (own i) (rest i)))
 
   strike-byte : strikeOf (e .remaining) j < 256
   unfolding strikeOf
@@ -239,9 +233,9 @@ module _ (m : ℕ) (e : Entry) (held : EntryHeld m e) (k : ℕ) (rs : List Item)
   unfolding setOf inMask if_then_else_
   nobody key = refl
 
-  finished-reads : readsAt (keep (heardKey m (setOf 0)) (placed 0 all)) (saw (storedAll noItems (take k rs))) ≡ readsOf k rs
+  finished-reads : gather (keep (heardKey m (setOf 0)) (placed 0 all)) (saw (storedAll noItems (take k rs))) ≡ readsOf k rs
   finished-reads =
-      ap (λ (ok : ℕ → Bool). readsAt (keep ok (placed 0 all)) (saw (storedAll noItems (take k rs)))) (fun-ext nobody)
+      ap (λ (ok : ℕ → Bool). gather (keep ok (placed 0 all)) (saw (storedAll noItems (take k rs)))) (fun-ext nobody)
       ∙ stored-reads 0 (keep (λ key. true) (placed 0 all)) noItems (take k rs) (taken-rise 0 k rs (carried .items)) (length-replicate 4 noItem) fits-all
 
   no-shards : setOf 0 ≡ []

@@ -12,7 +12,7 @@ use lib.Dec.{T, leb, eqb, leb→le, le→leb}
 use lib.ListN.{length, getD, take, replicate}
 use Rattle.rules.specs.Lists.{if_then_else_, at}
 use Rattle.rules.specs.Transactions as R
-use Rattle.rules.specs.Transactions.{get, put, keyOf, shardOf, placed, keep}
+use Rattle.rules.specs.Transactions.{get, put, keyOf, shardOf, placed, keep, gather}
 use Rattle.rules.proofs.Lists.{by, and, and-l, and-r}
 use Rattle.frames.specs.declared.Item.{Item}
 use Rattle.frames.specs.Frames.{noItem, okItem, okFrom, okItems}
@@ -21,7 +21,7 @@ use Rattle.frames.proofs.Round.{enough}
 use Rattle.entry.specs.declared.Entry.{Entry}
 use Rattle.entry.specs.Model as M
 use Rattle.entry.specs.Model.{inMask, beside, isOn, chosen, partOn, answeredOf, readsHeld}
-use Rattle.entry.specs.View.{setOf, saw, readsAt, heardKey, viewEntry, isGet, ReadOf, EntryHeld}
+use Rattle.entry.specs.View.{setOf, saw, heardKey, viewEntry, isGet, ReadOf, EntryHeld}
 use Rattle.entry.proofs.Slots.{part-take}
 use Rattle.entry.proofs.Sets.{in-set, shard-number, key-of}
 
@@ -105,8 +105,8 @@ reads-right ok zs p (suc n) (x ∷ xs) (y ∷ ys) l k h =
 
 -- one slot more
 slot-view : (see : ℕ → Option ℕ) (p : ℕ) (x y : Item) (ys : List Item) (xs : List R.Placed) (g t : Bool) → (T (g && t) → asRead y ≡ record { place = p; value = see p })
-    → map asRead ys ≡ readsAt xs see
-    → map asRead (if g && t then y ∷ ys else ys) ≡ readsAt (if t then record { place = p; operation = if g then get (x .key) else put (x .key) (x .value) } ∷ xs else xs) see
+    → map asRead ys ≡ gather xs see
+    → map asRead (if g && t then y ∷ ys else ys) ≡ gather (if t then record { place = p; operation = if g then get (x .key) else put (x .key) (x .value) } ∷ xs else xs) see
 unfolding if_then_else_
 slot-view see p x y ys xs true true f e = λ i. f tt i ∷ e i
 slot-view see p x y ys xs true false f e = e
@@ -115,7 +115,7 @@ slot-view see p x y ys xs false false f e = e
 
 slots-view : (ok : ℕ → Bool) (see : ℕ → Option ℕ) (p n : ℕ) (xs ys : List Item) → n ≤ length xs → length xs ≤ length ys → Answered ok p (map asOperation (take n xs)) ys
     → ((i : ℕ) → see (p + i) ≡ asRead (getD ys i noItem) .value)
-    → map asRead (beside (λ x. M.isGet x && ok (x .key)) (take n xs) ys) ≡ readsAt (keep ok (placed p (map asOperation (take n xs)))) see
+    → map asRead (beside (λ x. M.isGet x && ok (x .key)) (take n xs) ys) ≡ gather (keep ok (placed p (map asOperation (take n xs)))) see
 slots-view ok see p zero xs ys l k h s = refl
 slots-view ok see p (suc n) [] ys l k h s = absurd (omega arith)
 slots-view ok see p (suc n) (x ∷ xs) [] l k h s = absurd (omega arith)

@@ -8,7 +8,7 @@ use Prim.Native.Nat.{ℕ, zero, suc, _<_}
 use lib.Dec.{T}
 use lib.ListN.{length, getD}
 use Rattle.rules.specs.Lists.{if_then_else_, at, has}
-use Rattle.rules.specs.Transactions.{Operation, get, put, Write, Placed, Read, keyOf, shardOf, placed, keep}
+use Rattle.rules.specs.Transactions.{Operation, get, put, Write, keyOf, shardOf, placed, keep, gather}
 use Rattle.rules.specs.Board as B
 use Rattle.rules.specs.Board.{PRE, EXE}
 use Rattle.rules.specs.Kept.{EntryKept}
@@ -36,15 +36,6 @@ setOf mask = setFrom 8 1 mask
 abbrev pub saw : List Item → ℕ → Option ℕ
 saw slots p = asRead (getD slots p noItem) .value
 
--- the reads of the gets among some placed operations, where the get at place p saw see p
-abbrev pub readAt : Placed → Operation → (ℕ → Option ℕ) → List Read → List Read
-readAt x (get key) see rs = record { place = x.place; value = see x.place } ∷ rs
-readAt x (put key value) see rs = rs
-
-abbrev pub readsAt : List Placed → (ℕ → Option ℕ) → List Read
-readsAt [] see = []
-readsAt (x ∷ xs) see = readAt x x.operation see (readsAt xs see)
-
 -- a key whose shard remains no more
 abbrev pub heardKey : ℕ → List ℕ → ℕ → Bool
 heardKey m remaining key = not (has (shardOf m key) remaining)
@@ -60,7 +51,7 @@ viewEntry m e =
     record {
       write = writeOf e;
       status = if e .exe then EXE else PRE;
-      reads = readsAt (keep (heardKey m (setOf (e .remaining))) (placed 0 (operationsOf (e .count) (e .items)))) (saw (e .reads));
+      reads = gather (keep (heardKey m (setOf (e .remaining))) (placed 0 (operationsOf (e .count) (e .items)))) (saw (e .reads));
       remaining = setOf (e .remaining);
     }
 

@@ -13,6 +13,7 @@ use Rattle.rules.specs.Transactions as R
 use Rattle.rules.specs.Transactions.{get, put}
 use Rattle.rules.specs.Frames.{four, operationBytes, placedBytes, seenBytes, readBytes, backToBack, okOperation, okSeen, okValue, rising}
 use Rattle.rules.proofs.Lists.{by, and, and-l, and-r, or-cases}
+use Rattle.rules.proofs.Frames.{value-lt}
 use Rattle.frames.specs.declared.Item.{Item}
 use Rattle.frames.specs.declared.Shape.{Shape}
 use Rattle.frames.specs.declared.Shape.the-variants.{Operation, Placed, Read}
@@ -145,9 +146,6 @@ ok-front p q n x xs e l o t =
     let a : T (leb p (x .place)) = rw e l in
     let c : T (okFrom (suc (x .place)) n xs) = rw e t in
     and (leb p (x .place) && okItem x) (okFrom (suc (x .place)) n xs) (and (leb p (x .place)) (okItem x) a o) c
-
-value-lt : (v : ℕ) → T (okValue v) → v < 4294967296
-value-lt v t = let h = leb→le v 4294967295 t in omega arith
 
 key-lt : (k : ℕ) → T (leb k 255) → k < 256
 key-lt k t = let h = leb→le k 255 t in omega arith

@@ -4,7 +4,7 @@ use mathlib.Core.Path.{_≡_, refl, sym, ap, _∙_}
 use mathlib.Core.List.{List, [], _∷_, _++_, append-assoc}
 use Prim.Native.Nat.{ℕ, zero, suc, _+_, _*_, _/_, _%_, _<_, _≤_}
 use lib.Arith.{digits-div, digits-mod}
-use native.Mathlib.Nat.{zero-add, not-suc-le-zero, le-of-suc-le-suc, mod-eq-of-lt, div-div-eq-div-mul, add-zero, add-suc, suc-add, add-assoc, mul-suc, mul-zero}
+use native.Mathlib.Nat.{zero-add, not-suc-le-zero, le-of-suc-le-suc, mod-eq-of-lt, add-zero, add-suc, suc-add, add-assoc, mul-suc, mul-zero}
 use native.Mathlib.Numerals.{add-one, towards-suc}
 use native.Mathlib.Omega.{arith}
 use lib.ListN.{length, getD, take, drop}
@@ -12,6 +12,7 @@ use lib.Seq.{drop-cons, getD-append-add, getD-drop}
 use Rattle.rules.specs.Lists.{if_then_else_}
 use borrow.Author.Tests.{lt-ltb, le-ltb}
 use Rattle.rules.specs.Frames.{two, four, twoAt, fourAt}
+use Rattle.rules.proofs.Frames.{four-back}
 use Rattle.frames.specs.declared.Item.{Item}
 use Rattle.frames.specs.declared.Shape.{Shape}
 use Rattle.frames.specs.declared.Shape.the-variants.{Operation, Placed, Read}
@@ -44,16 +45,6 @@ four-of a b c d ha hb hc hd =
       high z d 256 c (omega arith) hc,
       mod-eq-of-lt hd,
     )
-
-pub two-back : (x : ℕ) → x < 65536 → x % 256 + 256 * (x / 256 % 256) ≡ x
-two-back x h = omega arith
-
-pub four-back : (x : ℕ) → x < 4294967296 → x % 256 + 256 * (x / 256 % 256) + 65536 * (x / 65536 % 256 + 256 * (x / 65536 / 256 % 256)) ≡ x
-four-back x h =
-    let e : x / 65536 ≡ x / 256 / 256 = sym (div-div-eq-div-mul x 256 256) in
-    let g : x / 65536 < 65536 = omega arith in
-    let k = two-back (x / 65536) g in
-    omega arith
 
 -- ---- Elements by their places
 

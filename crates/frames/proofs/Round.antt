@@ -12,6 +12,7 @@ use lib.Dec.{T, leb, eqb, leb→le, le→leb, eqb→eq, eqb-refl}
 use Rattle.rules.specs.Lists.{if_then_else_, within}
 use Rattle.rules.specs.Frames.{two, byteAt, twoAt}
 use Rattle.rules.proofs.Lists.{by, if-yes, and, and-l, and-r}
+use Rattle.rules.proofs.Frames.{two-back}
 use Rattle.frames.specs.declared.Item.{Item}
 use Rattle.frames.specs.declared.Shape.{Shape}
 use Rattle.frames.specs.declared.Shape.the-variants.{Operation, Placed, Read}
@@ -22,7 +23,7 @@ use Rattle.frames.specs.declared.Front.{Front}
 use Rattle.frames.specs.Frames.{kindOf, fieldBytes, fieldWidth, shapeOf, isBad, width, itemsBytes, listBytes, framed, frameBytes, lenOf, okItem, okFrom, okItems, okWindow, okHead, valid, badFrame, slots, listed, readSubmit, readForward, readShardAppend, readExecNotif, readExecuted, readResponse, headOf, bodyAt, candidateOf, noFront, taken, accept, readFront, readFrame}
 use Rattle.frames.specs.View.{CanonFrom, CanonFrame, Bytes}
 use Rattle.frames.proofs.Puts.{frame-bytes, length-frame}
-use Rattle.frames.proofs.Lists.{gets, gets-append, gets-part, gets-drop, two-at, items-bytes, slots-canon, two-back, items-back}
+use Rattle.frames.proofs.Lists.{gets, gets-append, gets-part, gets-drop, two-at, items-bytes, slots-canon, items-back}
 
 -- ---- What validity says
 

@@ -38,7 +38,7 @@ one-more-add m j (some w) x c = go (touches m j (w .operations))
     go false = refl
 
 -- the first entry counts, and those behind it
-touching-cons : (m j : ℕ) (w : Write) (ws : List Write) (q : ℕ) → touching m j (w ∷ ws) (suc q) ≡ oneMore m j (some w) 0 + touching m j ws q
+pub touching-cons : (m j : ℕ) (w : Write) (ws : List Write) (q : ℕ) → touching m j (w ∷ ws) (suc q) ≡ oneMore m j (some w) 0 + touching m j ws q
 touching-cons m j w ws zero = omega arith
 touching-cons m j w ws (suc q) =
     ap (λ c. oneMore m j (at ws q) c) (touching-cons m j w ws q) ∙ one-more-add m j (at ws q) (oneMore m j (some w) 0) (touching m j ws q)

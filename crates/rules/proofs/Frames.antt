@@ -36,10 +36,10 @@ decode-spells s f = go (candidate (twoAt s 2) (drop (2 + headerWidth) s))
 
 -- ---- Numbers
 
-two-back : (x : ℕ) → x < 65536 → x % 256 + 256 * (x / 256 % 256) ≡ x
+pub two-back : (x : ℕ) → x < 65536 → x % 256 + 256 * (x / 256 % 256) ≡ x
 two-back x h = omega arith
 
-four-back : (x : ℕ) → x < 4294967296 → x % 256 + 256 * (x / 256 % 256) + 65536 * (x / 65536 % 256 + 256 * (x / 65536 / 256 % 256)) ≡ x
+pub four-back : (x : ℕ) → x < 4294967296 → x % 256 + 256 * (x / 256 % 256) + 65536 * (x / 65536 % 256 + 256 * (x / 65536 / 256 % 256)) ≡ x
 four-back x h =
     let e : x / 65536 ≡ x / 256 / 256 = sym (div-div-eq-div-mul x 256 256) in
     let g : x / 65536 < 65536 = omega arith in
@@ -57,7 +57,7 @@ module _ {A : Type 0} (ok : A → Bool) (bytes : A → List ℕ) (first : List �
       back x (backToBack bytes xs) (and-l (ok x) (every ok xs) h) i
       ∷ (ap (λ (l : List ℕ). items first width (length xs) l) (rest x (backToBack bytes xs)) ∙ items-back xs (and-r (ok x) (every ok xs) h)) i
 
-value-lt : (value : ℕ) → T (okValue value) → value < 4294967296
+pub value-lt : (value : ℕ) → T (okValue value) → value < 4294967296
 value-lt value t = let h = leb→le value 4294967295 t in omega arith
 
 operation-back : (x : Operation) (t : List ℕ) → T (okOperation x) → firstOperation (operationBytes x ++ t) ≡ x

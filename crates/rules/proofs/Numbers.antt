@@ -14,7 +14,7 @@ use Rattle.rules.specs.Transactions.{Write}
 use Rattle.rules.specs.Outcomes.{Outcome, taken, refuse}
 use Rattle.rules.specs.Board.{Entry, Board, emptyBoard, start, writes, nextNumber, oneFurther, find, holding, raiseFloor, newEntry, append, settle, serveNew, heardFrom, finished, step}
 use Rattle.rules.specs.Kept.{ofClient, Counted, NumbersKept}
-use Rattle.rules.proofs.Lists.{by, if-yes, if-no, and, nothing}
+use Rattle.rules.proofs.Lists.{by, if-yes, if-no, and, nothing, at-snoc-new}
 use Rattle.rules.proofs.Steps.{Deed, refused, held, new, heard, done, step-deed}
 use Rattle.rules.proofs.Kept.{writes-snoc, writes-set, at-writes}
 
@@ -168,10 +168,6 @@ next-snoc c (v ∷ ws) w = go (eqb v.client c) (next-snoc c ws w)
     go true h = omega arith
     go false h = h
 
-at-end : (ws : List Write) (w : Write) → at (snoc ws w) (length ws) ≡ some w
-at-end [] w = refl
-at-end (v ∷ ws) w = at-end ws w
-
 empty-numbers : (started : Bool) (n m own : ℕ) → NumbersKept (emptyBoard started n m own)
 unfolding emptyBoard
 empty-numbers started n m own = record { counted = λ c. tt; floors = λ c. omega arith }
@@ -208,7 +204,7 @@ append-numbers b w ack l n k =
         (λ t.
         let e : c ≡ w .client = eqb→eq c (w .client) t in
         let f = k .floors (w .client) in
-        let up = below-next (snoc (writes (b .log)) w) (length (writes (b .log))) w (at-end (writes (b .log)) w) in
+        let up = below-next (snoc (writes (b .log)) w) (length (writes (b .log))) w (at-snoc-new (writes (b .log)) w) in
         rw e (omega arith))
         (λ t. let f = k .floors c in omega arith)
 

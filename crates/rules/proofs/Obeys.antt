@@ -9,17 +9,17 @@ use Prim.Native.Nat.{ℕ, suc, _+_, _*_, _≤_, _<_, min}
 use native.Mathlib.Omega.{arith}
 use lib.Dec.{T, leb, ltb, eqb, leb→le, le→leb, eqb→eq, eqb-refl, T-not}
 use lib.ListN.{length, length-append, length-set}
-use Rattle.rules.specs.Lists.{if_then_else_, within, at, snoc, isEmpty, every, changed, has, insert, strike}
+use Rattle.rules.specs.Lists.{if_then_else_, within, at, isEmpty, every, changed, has, insert, strike}
 use Rattle.rules.specs.Transactions.{Operation, Write, Placed, Read, keyOf, shardOf, touched, touches, placed, keep, onShard, getPlaces}
 use Rattle.rules.specs.Frames.{Frame, shardAppend, okClient, okNumber, okInd, okSeen, rising, okOperations, okWrite, okPlaced, okReads, obeys}
 use Rattle.rules.specs.Outcomes.{Outcome, taken, refuse, sentBytes}
 use Rattle.rules.specs.Board.{Entry, Board, PRE, EXE, isEXE, emptyBoard, start, writes, touching, holding, raiseFloor, newEntry, append, settle, forwardOf, shardAppendOf, backward, onward, serveNew, fits, heardFrom, finished, step}
 use Rattle.rules.specs.Kept.{Kept, EntryKept, SizesKept}
-use Rattle.rules.proofs.Lists.{by, if-yes, and, and-l, and-r, or-left, or-right, nothing, same-eq, at-lt, at-snoc-cases, at-set-cases}
+use Rattle.rules.proofs.Lists.{by, if-yes, and, and-l, and-r, or-left, or-right, nothing, same-eq, at-lt, at-snoc-cases, at-set-cases, de-morgan, at-snoc-new}
 use Rattle.rules.proofs.Frames.{WriteRules}
 use Rattle.rules.proofs.Sets.{strike-has, touched-every, touched-range, part-some}
 use Rattle.rules.proofs.Places.{places, operations-few, part-obeys, reads-obey, places-both, add-ok}
-use Rattle.rules.proofs.Room.{Sent, silent, alone, strike-ascends, touched-ascends, parts, parts-most, placed-length, encode-length}
+use Rattle.rules.proofs.Room.{Sent, silent, alone, strike-ascends, touched-ascends, parts, parts-most, placed-length, encode-length, Good, refuse-good}
 use Rattle.rules.proofs.Steps.{Deed, refused, held, new, heard, done, step-deed}
 use Rattle.rules.proofs.Kept.{at-writes}
 use Rattle.rules.proofs.Counts.{touching-most, touching-one}
@@ -107,10 +107,6 @@ heard-entry m j rs e k h t f =
     apart : (key : ℕ) → T (eqb (shardOf m key) j) → T (not (has (shardOf m key) (e .remaining))) → ⊥
     apart key a b = let q : shardOf m key ≡ j = eqb→eq (shardOf m key) j a in T-not (has j (e .remaining)) (rw q at b) h
 
-    de-morgan : (a b : Bool) → (a || not b) ≡ not (not a && b)
-    de-morgan true b = refl
-    de-morgan false b = refl
-
     both : (key : ℕ) → (eqb (shardOf m key) j || not (has (shardOf m key) (e .remaining))) ≡ not (has (shardOf m key) (strike j (e .remaining)))
     both key = de-morgan (eqb (shardOf m key) j) (has (shardOf m key) (e .remaining)) ∙ ap not (sym (strike-has (shardOf m key) j (e .remaining)))
 
@@ -191,9 +187,8 @@ onward-obeys b ind e k a l lo hi near t =
 
 -- ---- The steps
 
-pub record BoardGood (o : Outcome Board) : Type 0 where
-  pub state : SizesKept (o .state)
-  pub frames : Sent (o .frames)
+abbrev pub BoardGood : Outcome Board → Type 0
+BoardGood o = Good SizesKept o
 
 raised : (b : Board) (client ack : ℕ) → ack ≤ raiseFloor client ack b .floor client
 unfolding raiseFloor holding changed
@@ -225,10 +220,6 @@ settle-sizes b ind e shards k n =
     go q x (inl h) = k .entries q x h
     go q x (inr h) = rw (h .1) n
 
-at-snoc-new : (l : List Entry) (y : Entry) → at (snoc l y) (length l) ≡ some y
-at-snoc-new [] y = refl
-at-snoc-new (z ∷ l) y = at-snoc-new l y
-
 module _ (b : Board) (k : SizesKept b) (q : Kept b) where
   new-good : (w : Write) (ack : ℕ) → T (b .started) → WriteRules w ack → length (b .log) < 256 → BoardGood (serveNew b w ack)
   unfolding serveNew taken
@@ -246,7 +237,7 @@ module _ (b : Board) (k : SizesKept b) (q : Kept b) where
 
   deed-good : (o : Outcome Board) → Deed b o → BoardGood o
   unfolding taken refuse
-  deed-good _ (refused number) = record { state = k; frames = silent }
+  deed-good _ (refused number) = refuse-good number b k
   deed-good _ (held ind ack e s a r) =
       let up = raised b (e .write .client) ack in
       let near : e .write .number ≤ raiseFloor (e .write .client) ack b .floor (e .write .client) + 7 = omega (arith, r .ack-high) in

@@ -7,15 +7,14 @@ use mathlib.Core.Option.{Option, none, some}
 use Prim.Native.Nat.{ℕ, zero, suc, _+_, _≤_, _<_}
 use native.Mathlib.Omega.{arith}
 use lib.Dec.{T, leb, eqb, leb→le, le→leb, nleb→lt, eqb→eq}
-use lib.ListN.{length}
-use Rattle.rules.specs.Lists.{at, snoc, every}
+use Rattle.rules.specs.Lists.{at, snoc}
 use Rattle.rules.specs.Transactions.{Operation, Read}
 use Rattle.rules.specs.Frames.{Frame, submit, forward, shardAppend, execNotif, executed, response, okClient, okNumber, okOperations, okWrite, obeys, decode}
-use Rattle.rules.specs.Outcomes.{Outcome, taken, refuse, sentBytes, leastOut}
+use Rattle.rules.specs.Outcomes.{Outcome, taken, refuse}
 use Rattle.rules.specs.Session.{Outstanding, Window, emptyWindow, firstOf, smallest, invoked, without, answered, operationsOf, Session, start, withWindow, submitOf, Asked, allMeant, invokeStep, invoke, sendAgain, retry, Reply, decline, handOver, frameStep, readStep, step}
 use Rattle.rules.specs.Kept.{Rise, WindowKept, SessionKept}
 use Rattle.rules.proofs.Lists.{by, yes-of, and, nothing}
-use Rattle.rules.proofs.Room.{alone}
+use Rattle.rules.proofs.Room.{alone, Good, refuse-good}
 
 -- ---- The list of outstanding numbers
 
@@ -129,15 +128,8 @@ submit-obeys s number xs c n l h t =
 
 -- ---- The calls
 
-pub record SessionGood (o : Outcome Session) : Type 0 where
-  pub state : SessionKept (o .state)
-  pub frames : T (every obeys (o .frames))
-  -- "no step sends more" than 68 bytes
-  pub room : length (sentBytes (o .frames)) ≤ leastOut
-
-refuse-good : (number : ℕ) (s : Session) → SessionKept s → SessionGood (refuse number s)
-unfolding refuse
-refuse-good number s k = record { state = k; frames = tt; room = omega arith }
+abbrev pub SessionGood : Outcome Session → Type 0
+SessionGood o = Good SessionKept o
 
 pub start-good : (client : ℕ) → SessionKept (start client .state)
 unfolding start taken refuse smallest
@@ -163,7 +155,7 @@ meant-good s (some xs) k =
     let e : smallest (invoked xs (s .window)) ≡ smallest (s .window) = unfold invoked smallest in (first-snoc (s .window .outstanding) (s .window .next) xs) in
     let sent = alone (submitOf (withWindow (invoked xs (s .window)) s) (s .window .next) xs)
     (submit-obeys (withWindow (invoked xs (s .window)) s) (s .window .next) xs (k .client) small (rw e low) (rw e near) t) in
-    record { state = record { client = k .client; window = invoked-kept (s .window) xs (k .window) t l h }; frames = sent .rules; room = sent .room }
+    record { state = record { client = k .client; window = invoked-kept (s .window) xs (k .window) t l h }; frames = sent }
 
 pub invoke-good : (s : Session) (asked : List Asked) (out : ℕ) → SessionKept s → SessionGood (invoke s asked out)
 unfolding invoke
@@ -176,7 +168,7 @@ again-good s number (some xs) e k =
     let w = kept-waits 0 number (s .window .outstanding) (s .window .next) xs (k .window .rise) e in
     let sent = alone (submitOf s number xs)
     (submit-obeys s number xs (k .client) (omega (arith, w .less, k .window .numbers)) (unfold smallest in (w .least)) (omega (arith, w .less, k .window .window)) (w .ok)) in
-    record { state = k; frames = sent .rules; room = sent .room }
+    record { state = k; frames = sent }
 
 pub retry-good : (s : Session) (number out : ℕ) → SessionKept s → SessionGood (retry s number out)
 unfolding retry

@@ -38,7 +38,7 @@ abbrev pub byteCount : {State : Type 0} → Outcome State → ℕ
 byteCount o = length (sentBytes (o .frames))
 
 -- "An out area must have at least 68 bytes; no step sends more (the worst: four shards, one operation each, 4 × 17 bytes)";
--- that no step does is the law room of Sent, ShardGood and SessionGood, in proofs/
+-- that no step does is the law room of Sent in proofs/Room, which every Good step has
 abbrev pub leastOut : ℕ
 leastOut = 68
 

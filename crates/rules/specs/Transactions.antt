@@ -68,6 +68,15 @@ abbrev pub getPlaces : List Placed → List ℕ
 getPlaces [] = []
 getPlaces (x ∷ xs) = getPlace x x.operation (getPlaces xs)
 
+-- what the gets of some placed operations read, if the get at place p sees see p
+abbrev pub gatherOne : Placed → Operation → (ℕ → Option ℕ) → List Read → List Read
+gatherOne x (get key) see rs = record { place = x.place; value = see x.place } ∷ rs
+gatherOne x (put key value) see rs = rs
+
+abbrev pub gather : List Placed → (ℕ → Option ℕ) → List Read
+gather [] see = []
+gather (x ∷ xs) see = gatherOne x x.operation see (gather xs see)
+
 -- ---- Running: ShardExecAppend, lines 8 to 13
 
 -- what a store has for a key: the value last put, and the log number that put it

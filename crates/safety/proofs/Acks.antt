@@ -167,7 +167,7 @@ invoke-acks n m w c os k t z a =
     record {
       floors = r .0;
       flight = more-fly (LowTo (least sessions)) (w .sent) n c (C.submitOf s (w .sessions c .window .next) os ∷ []) (r .1) (submit-acks sessions s c (w .sessions c .window .next) os own (changed-same (w .sessions) c s), tt)
-          (unfold taken in (z .frames));
+          (unfold taken in (z .frames .rules));
     }
 
 retry-acks : (n m : ℕ) (w : World rules) (c number : ℕ) (os : List Operation) → Known n m w → T (w .sessions c .started)
@@ -176,7 +176,7 @@ retry-acks n m w c number os k t z a =
     record {
       floors = a .floors;
       flight = more-fly (LowTo (least (w .sessions))) (w .sent) n c (C.submitOf (w .sessions c) number os ∷ []) (a .flight) (submit-acks (w .sessions) (w .sessions c) c number os (k .sessions c .own-is t) refl, tt)
-          (unfold taken in (z .frames));
+          (unfold taken in (z .frames .rules));
     }
 
 reply-acks : (n m : ℕ) (w : World rules) (c number : ℕ) (rs : List Read) → Known n m w → AcksKnown w → AcksKnown (withReply w c number rs)

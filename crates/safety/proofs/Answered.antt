@@ -15,11 +15,11 @@ use Rattle.rules.specs.Transactions.{Operation, Read}
 use Rattle.rules.specs.Outcomes.{Outcome, taken, refuse}
 use Rattle.rules.specs.Session.{Outstanding, without, operationsOf}
 use Rattle.rules.specs.Session as C
-use Rattle.rules.proofs.Lists.{by, nothing}
+use Rattle.rules.proofs.Lists.{by, nothing, at-snoc-new}
 use Rattle.safety.specs.World.{ReplyTaken, World, rules, start, afterBoard, afterShard}
 use Rattle.safety.specs.Machine.{All}
 use Rattle.safety.specs.Further.{Answered}
-use Rattle.safety.proofs.Lists.{changed-all, at-snoc-old, at-snoc-new}
+use Rattle.safety.proofs.Lists.{changed-all, at-snoc-old}
 use Rattle.safety.proofs.Deeds.{afterInvoke}
 use Rattle.safety.proofs.Happens.{Happened, nothing-happened, board-stepped, shard-stepped, client-invoked, client-retried, client-answered, afterAnswer}
 

@@ -111,7 +111,7 @@ module _ (code : Code) (p : Promises code) where
     arrive-follows (shard j) bytes out small =
         let g = code .stepShard (w .shards j) bytes out in
         let x = p .shardSteps (w .shards j) bytes out (h .shards j) small in
-        let ok = SP.step-good (p .viewShard (w .shards j)) (k .shards j .sizes) bytes (length out) .frames in
+        let ok = SP.step-good (p .viewShard (w .shards j)) (k .shards j .sizes) bytes (length out) .frames .rules in
         record {
           held = unfold afterShard readOff in
               (record { boards = h .boards; shards = changed-all (λ i s. p .HeldShard s) (w .shards) j (g .state) (x .held) (h .shards); sessions = h .sessions });
@@ -139,10 +139,10 @@ module _ (code : Code) (p : Promises code) where
     unfolding next meantChoice meaning
     next-follows (invoke c request out) =
         call-follows c (remembered (w .invoked c) (C.allMeant (code .asks request))) out (code .invoke (w .sessions c) request out) _ (p .invokes (w .sessions c) request out (h .sessions c))
-        (CP.invoke-good (p .viewSession (w .sessions c)) (code .asks request) (length out) (k .sessions c .window) .frames)
+        (CP.invoke-good (p .viewSession (w .sessions c)) (code .asks request) (length out) (k .sessions c .window) .frames .rules)
     next-follows (retry c number out) =
         call-follows c (w .invoked c) out (code .retry (w .sessions c) number out) _ (p .retries (w .sessions c) number out (h .sessions c))
-        (CP.retry-good (p .viewSession (w .sessions c)) number (length out) (k .sessions c .window) .frames)
+        (CP.retry-good (p .viewSession (w .sessions c)) number (length out) (k .sessions c .window) .frames .rules)
     next-follows (deliver which out) = sent-follows (at (w .sent) which) out small
       where
         R : Address → Frame → Type 0

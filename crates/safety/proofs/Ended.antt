@@ -269,7 +269,7 @@ submit-ended : (n : ℕ) (E : ℕ → List Entry) (sent : List Packet) (replies 
     → SessionGood (taken s (C.submitOf s number os ∷ [])) → EndsWell n E sent replies → EndsWell n E (sent ++ posted n c (C.submitOf s number os ∷ [])) replies
 unfolding taken C.submitOf
 submit-ended n E sent replies c number s os z a =
-    record { entries = a .entries; flight = more-fly (EndedTo n E) sent n c (C.submitOf s number os ∷ []) (a .flight) (tt, tt) (z .frames); told = a .told }
+    record { entries = a .entries; flight = more-fly (EndedTo n E) sent n c (C.submitOf s number os ∷ []) (a .flight) (tt, tt) (z .frames .rules); told = a .told }
 
 own-reply : {n m : ℕ} {L : Logs} {H : Past} {c d number : ℕ} {rs : List Read} → RightTo n m L H (client c) (response d number rs) → d ≡ c
 own-reply (told c k ind rs w r y z x) = refl

@@ -8,12 +8,11 @@ use Prim.Native.Nat.{ℕ, zero, suc, _≤_}
 use native.Mathlib.Omega.{arith}
 use lib.ListN.{length}
 use Rattle.rules.specs.Lists.{at}
-use Rattle.rules.specs.Transactions.{Write, Placed, Store, readsOf, readsInLog, placed, keep, onShard}
+use Rattle.rules.specs.Transactions.{Write, Placed, Store, readsOf, readsInLog, placed, keep, onShard, gather}
 use Rattle.rules.specs.Frames.{Frame}
 use Rattle.rules.specs.Board.{Entry}
 use Rattle.rules.specs.Shard.{Shard}
 use Rattle.rules.proofs.Lists.{at-lt}
-use Rattle.rules.proofs.Gather.{gather}
 use Rattle.safety.specs.World.{Address, ReplyTaken}
 use Rattle.safety.specs.Claim.{through, Touching, ReplyRight}
 use Rattle.safety.proofs.Lists.{last-or, Under}

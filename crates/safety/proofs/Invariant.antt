@@ -8,12 +8,11 @@ use mathlib.Core.Option.{Option, none, some}
 use Prim.Native.Nat.{ℕ, suc, _≤_, _<_}
 use lib.Dec.{T}
 use Rattle.rules.specs.Lists.{at, has}
-use Rattle.rules.specs.Transactions.{Operation, Write, Placed, Read, storeAfterLog, shardOf, placed, keep, onShard, touched, touches}
+use Rattle.rules.specs.Transactions.{Operation, Write, Placed, Read, storeAfterLog, shardOf, placed, keep, onShard, touched, touches, gather}
 use Rattle.rules.specs.Frames.{Frame, submit, forward, shardAppend, execNotif, executed, response}
 use Rattle.rules.specs.Board.{Entry, PRE, isEXE, writes, touching}
 use Rattle.rules.specs.Shard.{Shard}
 use Rattle.rules.specs.Kept.{ofClient}
-use Rattle.rules.proofs.Gather.{gather}
 use Rattle.safety.specs.World.{Address, board, shard, client, Packet, ReplyTaken}
 use Rattle.safety.specs.Claim.{invocations, through, Touching, ReplyRight}
 use Rattle.safety.specs.Machine.{All}

@@ -116,7 +116,7 @@ module _ (m j : ℕ) (s : S.Shard) (f : Frame) (k : ShardKnown m j s) (t : T (s 
   shard-good = rw (shard-bytes s f t ok) at (SP.step-good s (k .sizes) (encode f) leastOut)
 
   pub shard-obeys : T (every obeys (S.frameStep s f .frames))
-  shard-obeys = shard-good .frames
+  shard-obeys = shard-good .frames .rules
 
   pub shard-ran : Ran j s f (S.frameStep s f .state) (S.frameStep s f .frames)
   shard-ran = here (k .own-is t) (shard-law s f .ran)

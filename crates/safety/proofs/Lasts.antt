@@ -14,10 +14,11 @@ use Rattle.rules.specs.Shard as S
 use Rattle.rules.specs.Session as C
 use Rattle.rules.specs.Kept.{SessionKept}
 use Rattle.rules.proofs.Session.{SessionGood}
+use Rattle.rules.proofs.Lists.{at-snoc-new}
 use Rattle.safety.specs.World.{Address, board, shard, client, World, rules, posted, afterBoard, afterShard}
 use Rattle.safety.specs.Claim.{ReplyRight}
 use Rattle.safety.specs.Machine.{All}
-use Rattle.safety.proofs.Lists.{Changed, there, elsewhere, changed-same, changed-cases, changed-all, changed-map, at-snoc-new, all-append}
+use Rattle.safety.proofs.Lists.{Changed, there, elsewhere, changed-same, changed-cases, changed-all, changed-map, all-append}
 use Rattle.safety.proofs.Running.{whole-reads}
 use Rattle.safety.proofs.Flight.{InFlight, Flies, arrives, posted-fly}
 use Rattle.safety.proofs.Invariant.{Logs, Past, RightTo, told, logsOf}
@@ -73,7 +74,7 @@ submitted : (n m : ℕ) (w : World rules) (s : C.Session) (c number : ℕ) (os :
 unfolding taken C.submitOf
 submitted n m w s c number os H own here z =
     posted-fly (RightTo n m (logsOf (entriesOf (w .boards))) H) n c (C.submitOf s number os ∷ [])
-    (submit-right n m (logsOf (entriesOf (w .boards))) H s c number os own here, tt) (z .frames)
+    (submit-right n m (logsOf (entriesOf (w .boards))) H s c number os own here, tt) (z .frames .rules)
 
 invoke-lasts : (n m : ℕ) (w : World rules) (c : ℕ) (os : List Operation) → Known n m w → T (w .sessions c .started)
     → SessionGood (taken (afterInvoke os (w .sessions c)) (C.submitOf (afterInvoke os (w .sessions c)) (w .sessions c .window .next) os ∷ []))

@@ -13,9 +13,9 @@ use Rattle.rules.specs.Transactions.{Read}
 use Rattle.rules.specs.Frames.{Frame, execNotif}
 use Rattle.rules.specs.Outcomes.{Outcome, taken, refuse}
 use Rattle.rules.specs.Board.{Entry, Board, PRE, EXE, isEXE, writes, touching, holding, raiseFloor, newEntry, append, settle, forwardOf, shardAppendOf, backward, onward, serveNew, heardFrom, finished}
-use Rattle.rules.proofs.Lists.{by, or-left, or-right}
+use Rattle.rules.proofs.Lists.{by, or-left, or-right, at-snoc-new}
 use Rattle.safety.specs.Machine.{All, Sends, sends-forward, sends-append, sends-executed, sends-response, Remark, by-notif, by-executed, Moved, same, grown, marked}
-use Rattle.safety.proofs.Lists.{at-snoc-new, at-set-there}
+use Rattle.safety.proofs.Lists.{at-set-there}
 use Rattle.safety.proofs.Deeds.{Deed, refused, held, new, heard, ended}
 
 -- ---- What is sent

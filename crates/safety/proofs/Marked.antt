@@ -1,7 +1,7 @@
 -- An entry changes: heard from one more shard, or ended. It stays the same write, and its reads stay what running the log gives.
 -- Assumes nothing.
 use mathlib.Core.Path.{_≡_, refl, sym, ap, _∙_, fun-ext}
-use mathlib.Core.Bool.{Bool, true, false, not, _&&_, _||_}
+use mathlib.Core.Bool.{Bool, not, _||_}
 use mathlib.Core.List.{List, [], _∷_}
 use mathlib.Core.Option.{some}
 use Prim.Native.Nat.{ℕ}
@@ -9,12 +9,12 @@ use lib.Dec.{T, eqb, eqb→eq, T-not}
 use native.Mathlib.Omega.{arith}
 use lib.ListN.{length, set}
 use Rattle.rules.specs.Lists.{at, changed, has, strike}
-use Rattle.rules.specs.Transactions.{Write, Placed, Read, shardOf, placed, keep, onShard, touched}
+use Rattle.rules.specs.Transactions.{Write, Placed, Read, shardOf, placed, keep, onShard, touched, gather}
 use Rattle.rules.specs.Frames.{Frame}
 use Rattle.rules.specs.Board.{Status, Entry, isEXE, writes, addReads, finished}
-use Rattle.rules.proofs.Lists.{strike-sub}
+use Rattle.rules.proofs.Lists.{strike-sub, de-morgan}
 use Rattle.rules.proofs.Sets.{strike-has, touched-every}
-use Rattle.rules.proofs.Gather.{gather, gather-both}
+use Rattle.rules.proofs.Gather.{gather-both}
 use Rattle.rules.proofs.Obeys.{none-left, all-left}
 use Rattle.rules.proofs.Kept.{writes-set}
 use Rattle.safety.specs.World.{board}
@@ -29,11 +29,7 @@ nil-of (x ∷ l) h = absurd (omega arith)
 
 -- the shards heard from, with one more
 one-more : (m j : ℕ) (remaining : List ℕ) → (λ (key : ℕ). eqb (shardOf m key) j || heardOf m remaining key) ≡ heardOf m (strike j remaining)
-one-more m j remaining = fun-ext λ key. go (eqb (shardOf m key) j) (has (shardOf m key) remaining) ∙ ap not (sym (strike-has (shardOf m key) j remaining))
-  where
-    go : (a b : Bool) → (a || not b) ≡ not (not a && b)
-    go true b = refl
-    go false b = refl
+one-more m j remaining = fun-ext λ key. de-morgan (eqb (shardOf m key) j) (has (shardOf m key) remaining) ∙ ap not (sym (strike-has (shardOf m key) j remaining))
 
 heard-sound : (m : ℕ) (G : List Write) (ind : ℕ) (e : Entry) (j : ℕ) (status : Status) (rs : List Read) → at G ind ≡ some (e .write) → T (has j (e .remaining))
     → (T (isEXE status) → length (strike j (e .remaining)) ≡ 0) → rs ≡ gather (onShard m j (e .write .operations)) (sees G ind (e .write)) → Sound m G ind e

@@ -2,7 +2,7 @@
 -- Assumes nothing.
 use mathlib.Core.Path.{_≡_, refl, sym, ap, _∙_}
 use mathlib.Core.Bool.{Bool, true, false, not, _&&_}
-use mathlib.Core.List.{List, [], _∷_, _++_, map, append-assoc}
+use mathlib.Core.List.{List, [], _∷_, _++_, append-assoc}
 use mathlib.Core.Option.{Option, none, some}
 use Prim.Native.Nat.{ℕ, zero, suc, _+_, _≤_, _<_}
 use native.Mathlib.Omega.{arith}
@@ -12,7 +12,7 @@ use native.Mathlib.Nat.{mod-lt}
 use mir.Facts.{T-not, yes-eqb, yes-leb, yes-ltb, eqb-no}
 use Rattle.rules.specs.Lists.{if_then_else_, at, snoc, every, below}
 use Rattle.rules.specs.Answers.{done, notUsable, belowFloor, tooEarly, logFull, tooLate}
-use Rattle.rules.specs.Transactions.{Operation, get, put, Write, Placed, Read, keyOf, shardOf, touched, touches, placed, keep, onShard, getPlace, getPlaces, sameOperation, sameOperations, sameWrite}
+use Rattle.rules.specs.Transactions.{Operation, get, put, Write, Placed, Read, keyOf, shardOf, touched, touches, placed, keep, onShard, getPlaces, sameOperation, sameOperations, sameWrite, gather}
 use Rattle.rules.specs.Frames.{Frame, decode}
 use Rattle.rules.specs.Outcomes.{Outcome, taken, refuse}
 use Rattle.rules.specs.Board as B
@@ -23,8 +23,8 @@ use Rattle.rules.proofs.Lists.{by, yes-of, and, and-l, and-r, if-yes, nothing, 
 use Rattle.rules.proofs.Frames.{decode-encode}
 use Rattle.rules.proofs.Steps.{ready}
 use Rattle.rules.proofs.Sets.{insert-cases}
-use Rattle.rules.proofs.Gather.{gatherOne, gather}
 use Rattle.rules.proofs.Numbers.{next-counts, found, find-stands}
+use Rattle.rules.proofs.Places.{gather-places}
 use Rattle.safety.specs.World.{Address, board, shard, client, Packet, World, rules}
 use Rattle.safety.specs.Claim.{invocations, through}
 use Rattle.safety.specs.Further.{answerTo, Expected}
@@ -68,14 +68,6 @@ same-writes v w e =
     (and (eqb (w .client) (w .client)) (eqb (w .number) (w .number)) (eqb-refl (w .client)) (eqb-refl (w .number))) (same-operations (w .operations)))
 
 -- ---- Reads fit
-
-gather-places : (xs : List Placed) (see : ℕ → Option ℕ) → map (λ (r : Read). r .place) (gather xs see) ≡ getPlaces xs
-gather-places [] see = refl
-gather-places (x ∷ xs) see = go x.operation (gather-places xs see)
-  where
-    go : (o : Operation) → map (λ (r : Read). r .place) (gather xs see) ≡ getPlaces xs → map (λ (r : Read). r .place) (gatherOne x o see (gather xs see)) ≡ getPlace x o (getPlaces xs)
-    go (get key) e = ap {B = List ℕ} (λ l. x.place ∷ l) e
-    go (put key value) e = e
 
 gather-fits : (rs : List Read) (xs : List Placed) (see : ℕ → Option ℕ) → rs ≡ gather xs see → T (B.fits rs xs)
 gather-fits rs xs see e = rw (e, gather-places xs see) (same-refl (getPlaces xs))

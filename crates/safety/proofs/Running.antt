@@ -12,11 +12,10 @@ use lib.Dec.{T, eqb}
 use lib.ListN.{length}
 use mir.Facts.{T-not, not-T, yes-eqb, no-eqb}
 use Rattle.rules.specs.Lists.{if_then_else_, at, changed}
-use Rattle.rules.specs.Transactions.{Operation, get, put, Write, Placed, Read, Cell, Store, keyOf, shardOf, touched, touches, placed, keep, effect, storeAfter, valueOf, note, readsOf, runEntry, storeAfterLog}
+use Rattle.rules.specs.Transactions.{Operation, get, put, Write, Placed, Read, Cell, Store, keyOf, shardOf, touched, touches, placed, keep, effect, storeAfter, valueOf, note, readsOf, runEntry, storeAfterLog, gatherOne, gather}
 use Rattle.rules.specs.Board.{oneMore, touching}
 use Rattle.rules.proofs.Lists.{by, if-yes, if-no, at-some}
 use Rattle.rules.proofs.Sets.{insert-same, insert-old}
-use Rattle.rules.proofs.Gather.{gatherOne, gather}
 use Rattle.rules.proofs.Obeys.{all-left}
 use Rattle.safety.proofs.Lists.{last-or, changed-other, changed-cases, Changed, there, elsewhere, Under}
 

@@ -7,11 +7,10 @@ use Prim.Native.Nat.{ℕ, zero, suc, pred, _≤_, _<_}
 use native.Mathlib.Omega.{arith}
 use lib.Dec.{T}
 use Rattle.rules.specs.Lists.{at, has}
-use Rattle.rules.specs.Transactions.{Write, Placed, touches, placed, keep}
+use Rattle.rules.specs.Transactions.{Write, Placed, touches, placed, keep, gather}
 use Rattle.rules.specs.Frames.{Frame}
 use Rattle.rules.specs.Board.{Entry, isEXE, writes, touching}
 use Rattle.rules.proofs.Counts.{touching-one}
-use Rattle.rules.proofs.Gather.{gather}
 use Rattle.rules.proofs.Obeys.{all-left}
 use Rattle.rules.proofs.Kept.{at-writes}
 use Rattle.safety.specs.World.{recipient}

@@ -13,10 +13,10 @@ use Rattle.rules.specs.Transactions.{Operation}
 use Rattle.rules.specs.Session as C
 use Rattle.rules.specs.Kept.{SessionKept}
 use Rattle.rules.specs.Shard.{Shard}
-use Rattle.rules.proofs.Lists.{by, nothing}
+use Rattle.rules.proofs.Lists.{by, nothing, at-snoc-new}
 use Rattle.safety.specs.World.{board, Packet, ReplyTaken}
 use Rattle.safety.specs.Machine.{All}
-use Rattle.safety.proofs.Lists.{Changed, there, elsewhere, changed-cases, Under, at-snoc-old, at-snoc-new, all-map, all-append}
+use Rattle.safety.proofs.Lists.{Changed, there, elsewhere, changed-cases, Under, at-snoc-old, all-map, all-append}
 use Rattle.safety.proofs.Numbered.{invoked-grows}
 use Rattle.safety.proofs.Flight.{flies-map}
 use Rattle.safety.proofs.Invariant.{Logs, Past, RightTo, asked, Core}

@@ -9,13 +9,12 @@ use native.Mathlib.Omega.{arith}
 use native.Mathlib.Decide.{decLe}
 use lib.Dec.{T}
 use Rattle.rules.specs.Lists.{at, every, changed}
-use Rattle.rules.specs.Transactions.{Write, readsOf, storeAfterLog, placed, onShard, touches}
+use Rattle.rules.specs.Transactions.{Write, readsOf, storeAfterLog, placed, onShard, touches, gather}
 use Rattle.rules.specs.Frames.{Frame, execNotif, obeys}
 use Rattle.rules.specs.Board.{touching}
 use Rattle.rules.specs.Shard.{Shard}
 use Rattle.rules.specs.Shard as S
 use Rattle.rules.proofs.Counts.{touching-one}
-use Rattle.rules.proofs.Gather.{gather}
 use Rattle.safety.specs.World.{shard, Packet, posted, ReplyTaken}
 use Rattle.safety.specs.Claim.{through}
 use Rattle.safety.specs.Machine.{Ran, stayed, went}

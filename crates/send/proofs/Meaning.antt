@@ -3,7 +3,7 @@
 use mathlib.Core.Path.{_≡_, refl, sym, ap, subst, _∙_}
 use mathlib.Core.Bool.{Bool, true, false}
 use mathlib.Core.List.{List, [], _∷_, _++_, map, append-assoc, append-nil}
-use mathlib.Core.Option.{Option, none, some}
+use mathlib.Core.Option.{some}
 use Prim.Native.Nat.{ℕ, zero, suc, _+_, _≤_, min}
 use native.Mathlib.Numerals.{add-one}
 use native.Mathlib.Omega.{arith}
@@ -11,15 +11,16 @@ use lib.Dec.{T, ltb, eqb}
 use lib.ListN.{length, take, drop, length-map}
 use mir.Facts.{no-ltb}
 use borrow.Author.Tests.{le-leb}
-use Rattle.rules.specs.Lists.{if_then_else_, at, has}
-use Rattle.rules.specs.Transactions.{Write, touches, onShard}
+use Rattle.rules.specs.Lists.{if_then_else_, has}
+use Rattle.rules.specs.Transactions.{touches, onShard}
 use Rattle.rules.specs.Frames as F
 use Rattle.rules.specs.Frames.{shardAppend, executed, response}
 use Rattle.rules.specs.Outcomes.{sentBytes}
 use Rattle.rules.specs.Board as B
-use Rattle.rules.specs.Board.{PRE, EXE, isEXE, writes, oneMore, touching, forwardOf, shardAppendOf, backward, onward}
+use Rattle.rules.specs.Board.{PRE, EXE, isEXE, writes, touching, forwardOf, shardAppendOf, backward, onward}
 use Rattle.rules.proofs.Lists.{if-no}
 use Rattle.rules.proofs.Sets.{part-some}
+use Rattle.rules.proofs.Counts.{touching-cons}
 use Rattle.frames.specs.declared.Item.{Item}
 use Rattle.frames.specs.declared.Frame.{Frame}
 use Rattle.frames.specs.declared.Head.the-variants.{Executed, Response}
@@ -39,21 +40,6 @@ use Rattle.send.specs.View.{maskOf, PartsOf, Means}
 use Rattle.send.specs.declared.Sent.{Sent}
 
 -- ---- sn
-
-one-more-add : (m j : ℕ) (o : Option Write) (x c : ℕ) → oneMore m j o (x + c) ≡ x + oneMore m j o c
-unfolding if_then_else_
-one-more-add m j none x c = refl
-one-more-add m j (some w) x c = go (touches m j (w .operations))
-  where
-    go : (t : Bool) → (if t then suc (x + c) else x + c) ≡ x + (if t then suc c else c)
-    go true = omega arith
-    go false = refl
-
--- the first entry counts, and those behind it
-touching-cons : (m j : ℕ) (w : Write) (ws : List Write) (q : ℕ) → touching m j (w ∷ ws) (suc q) ≡ oneMore m j (some w) 0 + touching m j ws q
-touching-cons m j w ws zero = omega arith
-touching-cons m j w ws (suc q) =
-    ap (λ c. oneMore m j (at ws q) c) (touching-cons m j w ws q) ∙ one-more-add m j (at ws q) (oneMore m j (some w) 0) (touching m j ws q)
 
 module _ (m : ℕ) (lo : 1 ≤ m) (hi : m ≤ 8) where
   touches-mask : (j : ℕ) (e : Entry) → touches m j (viewEntry m e .write .operations) ≡ inMask (maskOf m e) j

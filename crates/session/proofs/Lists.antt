@@ -1,7 +1,7 @@
 -- A list that is asked for passes the code's test exactly if the rules let it pass, and then it is kept as the operations that are meant.
 -- Assumes nothing.
 use mathlib.Core.Path.{_≡_, refl, sym, ap, _∙_}
-use mathlib.Core.Bool.{Bool, true, false, not, _&&_}
+use mathlib.Core.Bool.{Bool, true, not, _&&_}
 use mathlib.Core.List.{List, [], _∷_}
 use mathlib.Core.Option.{Option, none, some}
 use Prim.Native.Nat.{ℕ, zero, suc, _+_, _≤_, _<_}
@@ -14,7 +14,7 @@ use Rattle.rules.specs.Lists.{if_then_else_, within, every}
 use Rattle.rules.specs.Transactions.{Operation, get, put}
 use Rattle.rules.specs.Frames.{okValue, okOperation, okOperations}
 use Rattle.rules.specs.Session as R
-use Rattle.rules.proofs.Lists.{and, and-l, and-r, T-false, nothing}
+use Rattle.rules.proofs.Lists.{and, and-l, and-r, T-false, nothing, either}
 use Rattle.frames.specs.declared.Item.{Item}
 use Rattle.frames.specs.Frames.{okItem, okFrom, okItems}
 use Rattle.frames.specs.View.{operationItem, operationItems, filled}
@@ -24,11 +24,6 @@ use Rattle.session.specs.declared.Asked.{Asked}
 use Rattle.session.specs.declared.Operations.{Operations}
 use Rattle.session.specs.Model.{noAsked, keptItem, itemAt, itemsOf, okAsked}
 use Rattle.session.specs.View.{viewAsked, firsts, askedOf, EachSized, Sized}
-
--- a test holds or not
-pub either : {C : Type 0} (b : Bool) → (T b → C) → (T (not b) → C) → C
-either true f g = f tt
-either false f g = g tt
 
 -- ---- The kept items, one behind the other
 

@@ -18,7 +18,7 @@ use Rattle.rules.specs.Frames.{okOperations, obeys, encode}
 use Rattle.rules.specs.Outcomes.{Outcome, taken, refuse, unusable, sentBytes}
 use Rattle.rules.specs.Session as R
 use Rattle.rules.specs.Kept.{SessionKept}
-use Rattle.rules.proofs.Lists.{if-yes, if-no, and-l, T-true, T-false}
+use Rattle.rules.proofs.Lists.{if-yes, if-no, and-l, T-true, T-false, either}
 use Rattle.rules.proofs.Session.{invoke-good, retry-good}
 use Rattle.frames.specs.declared.Head.the-variants.{Submit}
 use Rattle.frames.specs.declared.Frame.{Frame}
@@ -35,7 +35,7 @@ use Rattle.session.specs.declared.Operations.{Operations}
 use Rattle.session.specs.declared.Session.{Session}
 use Rattle.session.specs.Model.{startedOf, okAsked, itemsOf, submitFrame, Call, refusal, sending, givenOf, laidWith, given, laid, withWindow, taking, invoking, invokedOf, invokeOut, retrying, retriedOf, retryOut}
 use Rattle.session.specs.View.{viewSession, Held, askedOf, Sized, viewMeaning, viewCall, StartMeans, SubmitMeans, InvokeMeans, RetryMeans}
-use Rattle.session.proofs.Lists.{either, Asks, asks, not-asked}
+use Rattle.session.proofs.Lists.{Asks, asks, not-asked}
 
 held-session : (s : Session) → Held s → SessionKept (viewSession s)
 unfolding viewSession
@@ -207,7 +207,7 @@ module _ (s : Session) (ops : Operations) (out : ℕ) (h : Held s) (z : Sized op
   pub invoking-means : CallMeans out (s .window .next) (invoking s ops out) (R.invoke (viewSession s) (askedOf ops) out)
   unfolding invoking R.invoke viewSession
   invoking-means =
-      let good = invoke-good (viewSession s) (askedOf ops) out (held-session s h) .frames in
+      let good = invoke-good (viewSession s) (askedOf ops) out (held-session s h) .frames .rules in
       let window = W.invokedOf (s .window) (ops .count) (itemsOf ops) in
       either (unusable (s .started) out)
       (λ t. refused-means s h out (s .window .next) 11 tt _ _ (if-yes (unusable (s .started) out) _ _ t) (if-yes (unusable (s .started) out) _ _ t))
@@ -259,7 +259,7 @@ module _ (s : Session) (number out : ℕ) (h : Held s) where
   pub retrying-means : CallMeans out number (retrying s number out) (R.retry (viewSession s) number out)
   unfolding retrying R.retry viewSession
   retrying-means =
-      let good = retry-good (viewSession s) number out (held-session s h) .frames in
+      let good = retry-good (viewSession s) number out (held-session s h) .frames .rules in
       either (unusable (s .started) out)
       (λ t. refused-means s h out number 11 tt _ _ (if-yes (unusable (s .started) out) _ _ t) (if-yes (unusable (s .started) out) _ _ t))
       (λ u.
@@ -339,10 +339,10 @@ pub invoke-means : (s : Session) (ops : Operations) (out : List ℕ) → Held s 
 unfolding invokedOf invokeOut
 invoke-means s ops out h z =
     given-means (invoking s ops (length out)) (s .window .next) out (R.invoke (viewSession s) (askedOf ops) (length out)) (invoking-means s ops (length out) h z)
-    (invoke-good (viewSession s) (askedOf ops) (length out) (held-session s h) .room)
+    (invoke-good (viewSession s) (askedOf ops) (length out) (held-session s h) .frames .room)
 
 pub retry-means : (s : Session) (number : ℕ) (out : List ℕ) → Held s → RetryMeans s number out (retriedOf s number out) (retryOut s number out)
 unfolding retriedOf retryOut
 retry-means s number out h =
     given-means (retrying s number (length out)) number out (R.retry (viewSession s) number (length out)) (retrying-means s number (length out) h)
-    (retry-good (viewSession s) number (length out) (held-session s h) .room)
+    (retry-good (viewSession s) number (length out) (held-session s h) .frames .room)

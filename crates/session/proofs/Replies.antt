@@ -16,7 +16,7 @@ use Rattle.rules.specs.Frames as F
 use Rattle.rules.specs.Frames.{okOperations}
 use Rattle.rules.specs.Board.{fits}
 use Rattle.rules.specs.Session as R
-use Rattle.rules.proofs.Lists.{if-yes, if-no, T-true, T-false}
+use Rattle.rules.proofs.Lists.{if-yes, if-no, T-true, T-false, either}
 use Rattle.frames.specs.declared.Item.{Item}
 use Rattle.frames.specs.declared.Head.{Head}
 use Rattle.frames.specs.declared.Head.the-variants.{Bad, Submit, Forward, ShardAppend, ExecNotif, Executed, Response}
@@ -34,7 +34,6 @@ use Rattle.session.specs.declared.Session.{Session}
 use Rattle.session.specs.declared.Responded.{Responded}
 use Rattle.session.specs.Model.{withWindow, declinedOf, heardOf, byHead, respondedOf}
 use Rattle.session.specs.View.{viewSession, Held, viewReply, ReplyMeans, ResponseMeans}
-use Rattle.session.proofs.Lists.{either}
 use Rattle.session.proofs.Fits.{fits-means}
 use Rattle.session.proofs.Means.{slot-count}
 

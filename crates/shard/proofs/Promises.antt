@@ -2,7 +2,7 @@
 -- changes nothing; a promise admits one outcome; and a group is determined by what it means.
 -- Assumes nothing.
 use mathlib.Core.Path.{_≡_, refl, sym, ap, _∙_}
-use mathlib.Core.Bool.{Bool, true, false, not, _&&_, _||_}
+use mathlib.Core.Bool.{Bool, true, false, not, _&&_}
 use mathlib.Core.List.{List, [], _∷_, _++_, map}
 use mathlib.Core.Option.{none}
 use Prim.Native.Nat.{ℕ, zero, suc, _≤_}
@@ -22,6 +22,7 @@ use Rattle.rules.specs.Kept.{ShardKept}
 use Rattle.rules.proofs.Lists.{by, and-l, and-r, nothing}
 use Rattle.rules.proofs.Frames.{decode-spells}
 use Rattle.rules.proofs.Shard.{start-good, step-good}
+use Rattle.rules.proofs.Steps.{ready}
 use Rattle.frames.specs.declared.Item.{Item}
 use Rattle.frames.specs.declared.Frame.{Frame}
 use Rattle.frames.specs.Frames.{readFrame, framesBytes}
@@ -148,10 +149,6 @@ module _ (s : Shard) (h : Held s) (bytes : List ℕ) (read : meaning (readFrame 
   groups : T (s .started) → 1 ≤ s .m
   groups t = leb→le 1 (s .m) (and-l (1 ≤? s .m) (s .m ≤? 8) (and-l (within 1 8 (s .m)) (within 1 (s .m) (s .own)) (h .setup t)))
 
-  ready : (a c : Bool) → T (not (not a || c)) → T a
-  ready true c t = tt
-  ready false c t = absurd t
-
   outcome-means : (room : ℕ) → Meant (outcome s bytes room) (S.step (viewShard s) bytes room)
   unfolding outcome judge S.step viewShard meaning
   outcome-means room =
@@ -174,7 +171,7 @@ module _ (s : Shard) (h : Held s) (bytes : List ℕ) (read : meaning (readFrame 
       let o = outcome-means (length out) in
       let gs : List F.Frame = S.step (viewShard s) bytes (length out) .frames in
       let k : framesBytes (outcome s bytes (length out) .frames) ≡ sentBytes gs =
-      ap framesBytes (o .frames) ∙ sent-bytes gs (step-good (viewShard s) (h .kept) bytes (length out) .frames) in
+      ap framesBytes (o .frames) ∙ sent-bytes gs (step-good (viewShard s) (h .kept) bytes (length out) .frames .rules) in
       rw (p .0, p .1)
       (record {
         held = held-after (length out);

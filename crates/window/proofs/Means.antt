@@ -2,7 +2,7 @@
 -- for where it would stand, and of two numbers with one slot at most one is outstanding.
 -- Assumes nothing.
 use mathlib.Core.Path.{_≡_, refl, sym, ap, _∙_}
-use mathlib.Core.Bool.{Bool, true, false, not}
+use mathlib.Core.Bool.{true, false, not}
 use mathlib.Core.Logic.{_⊎_, inl, inr, ⊎-elim}
 use mathlib.Core.List.{List, _∷_}
 use mathlib.Core.Option.{none, some}
@@ -17,18 +17,13 @@ use Rattle.rules.specs.Transactions.{Operation}
 use Rattle.rules.specs.Frames.{okOperations}
 use Rattle.rules.specs.Session as R
 use Rattle.rules.specs.Kept.{Rise, WindowKept}
-use Rattle.rules.proofs.Lists.{by, if-yes, if-no, and, and-l, and-r, T-true, T-false}
+use Rattle.rules.proofs.Lists.{by, if-yes, if-no, and, and-l, and-r, T-true, T-false, either}
 use Rattle.frames.specs.View.{operationsOf}
 use Rattle.window.specs.declared.Slot.{Slot}
 use Rattle.window.specs.declared.Window.{Window}
 use Rattle.window.specs.Model.{free, noSlot, freshWindow, waits, slotOf, isOutstanding, oldest, span, firstFrom, smallestOf, keptOf, storing, answeredOf}
 use Rattle.window.specs.View.{outstandingOf, outstandingFrom, viewWindow, slotFor, Waiting, Held}
 use Rattle.window.proofs.Items.{items-back, some-operations}
-
--- a test holds or not
-either : {C : Type 0} (b : Bool) → (T b → C) → (T (not b) → C) → C
-either true f g = f tt
-either false f g = g tt
 
 -- ---- The smallest outstanding number
 
