@@ -5,3 +5,4 @@ pub mod ByPlace
 pub mod Meaning
 pub mod Entries
 pub mod Held
+pub mod Ruled

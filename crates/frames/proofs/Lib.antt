@@ -5,3 +5,4 @@ pub mod Lists
 pub mod Round
 pub mod Items
 pub mod Meaning
+pub mod Ruled

@@ -3,3 +3,4 @@ pub mod Digits
 pub mod Example
 pub mod Worth
 pub mod Short
+pub mod Ruled

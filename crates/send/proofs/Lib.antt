@@ -2,3 +2,4 @@ pub mod Count
 pub mod Room
 pub mod Lay
 pub mod Meaning
+pub mod Ruled

@@ -4,3 +4,4 @@ pub mod Fits
 pub mod Means
 pub mod Replies
 pub mod Promises
+pub mod Ruled

@@ -1,3 +1,4 @@
 pub mod Search
 pub mod Items
 pub mod Means
+pub mod Ruled
