@@ -3,11 +3,12 @@
 -- Assumes nothing.
 use mathlib.Core.Path.{_≡_, refl, ap, _∙_}
 use mathlib.Core.Bool.{Bool, false, _&&_}
-use mathlib.Core.List.{List, []}
-use Prim.Native.Nat.{ℕ, zero, suc, _≤_, _<_}
+use mathlib.Core.List.{List, [], _∷_}
+use Prim.Native.Nat.{ℕ, zero, suc, _-_, _≤_, _<_}
 use native.Mathlib.Omega.{arith}
 use lib.Dec.{leb, leb→le}
-use lib.ListN.{getD}
+use lib.ListN.{length, getD}
+use borrow.Author.Tests.{lt-leb, le-ltb}
 use Rattle.rules.specs.Lists.{if_then_else_, within}
 use Rattle.rules.proofs.Lists.{by, and-r}
 use Rattle.board.specs.declared.Board.{Board}
@@ -18,8 +19,10 @@ use Rattle.shard.specs.declared.Shard.{Shard}
 use Rattle.shard.specs.declared.Started.{Started as ShardStarted}
 use Rattle.shard.specs.Model.{emptyShard, startOf}
 use Rattle.delivery.specs.declared.Register.{Register}
-use Rattle.delivery.specs.Register.{boardAtStart, shardAtStart, boardsOf, shardsOf, registerOf}
-use Rattle.delivery.specs.Delivery.{runs, begun, delivered}
+use Rattle.records.specs.declared.Next.the-variants.{Record}
+use Rattle.records.specs.Records.{nextOf}
+use Rattle.delivery.specs.Register.{boardAtStart, shardAtStart, boardsOf, shardsOf, registerOf, turnOf}
+use Rattle.delivery.specs.Delivery.{frameAt, after, onward, runs, begun, delivered}
 use Rattle.delivery.specs.Logs.{logLines}
 
 -- ---- start
@@ -72,6 +75,12 @@ shard-above-m n m i z h g = ap (λ (s : Shard). s .started) (shards-at n m i z h
 pub nothing-delivered : (r : Register) (first room : ℕ) → delivered r first [] room ≡ begun r first
 unfolding runs
 nothing-delivered r first room = refl
+
+-- the first record skipped, or delivered twice: what is left is to go on behind it, with its line written
+pub first-record : (r : Register) (first x : ℕ) (xs : List ℕ) (room address end : ℕ) → first < 18446744073709551615 → 128 ≤ room → nextOf (x ∷ xs) ≡ Record address end
+    → delivered r first (x ∷ xs) room ≡ runs (length xs) (x ∷ xs) room (after (begun r first) end (turnOf r address (frameAt (x ∷ xs) 0 end)))
+unfolding runs onward if_then_else_
+first-record r first x xs room address end low wide e = rw (lt-leb 18446744073709551615 first low, le-ltb (room - 0) 128 (omega arith), e)
 
 -- ---- log_lines
 
