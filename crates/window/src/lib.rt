@@ -110,7 +110,7 @@ impl Window {
         ensures { λ r. ⌜ r ≡ denied self answer ⌝ }
     {
         Invoked {
-            window: self,
+            window: self, // no number is used up
             answer: answer,
             number: 0,
         }
