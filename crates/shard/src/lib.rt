@@ -233,7 +233,8 @@ fn note(mut reads: Reads, x: Item, cell: Cell) -> Reads
 fn cell_after(log_number: LogNumber, x: Item, cell: Cell) -> Cell
     ensures { λ r. ⌜ r ≡ cellAfter «log_number» x cell ⌝ }
 {
-    if x.code == 0 {
+    let is_get = x.code == 0;
+    if is_get {
         return cell;
     }
     Cell {
