@@ -106,7 +106,7 @@ fn judge_held(
         len: len,
         shards: 0,
         ack: ack,
-        sends: true,
+        sends: true, // PRE or EXE: a repeat is not dropped
     }
 }
 
