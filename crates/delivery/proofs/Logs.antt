@@ -2,16 +2,16 @@
 -- Assumes nothing.
 use mathlib.Core.List.{List, _∷_, _++_, append-assoc, append-nil}
 use mathlib.Core.Path.{_≡_, refl, ap, sym, _∙_}
-use Prim.Native.Nat.{ℕ, suc, _+_, _*_, _≤_, _<_}
+use Prim.Native.Nat.{ℕ, _+_, _*_, _≤_, _<_}
 use native.Mathlib.Omega.{arith}
-use native.Mathlib.Numerals.{add-one}
 use mir.Val.{Val}
 use denote.Laws.{Is}
 use denote.Struct.Laws as LL
-use lib.ListN.{length, take, drop, getD, length-take, length-map, drop-of-length-le}
-use lib.Seq.{drop-cons, getD-take, length-take-le}
+use lib.ListN.{length, take, drop, getD, length-map, drop-of-length-le}
+use lib.Seq.{length-take-le}
 use borrow.Author.Tests.{le-leb, lt-leb}
 use Rattle.rules.specs.Lists.{if_then_else_}
+use Rattle.frames.proofs.Lists.{front-cons}
 use Rattle.lines.specs.Text.{lLine}
 use Rattle.lines.proofs.Short.{l-short}
 use Rattle.entry.specs.declared.Entry.{Entry}
@@ -46,9 +46,7 @@ module _ {board : ℕ} {log : List Entry} {len : ℕ} {l₀ : List ℕ} {k : ℕ
       let line : List ℕ = lLine board k (e .client) (e .number) (e .exe) in
       let short : length line ≤ 128 = l-short board k (e .client) (e .number) (e .exe) in
       let fits : written + 128 ≤ length l₀ = omega (arith, g .few) in
-      let h : k < length (take len log) = rw (length-take len log) (omega (arith, all)) in
-      let next : drop k (take len log) ≡ e ∷ drop (suc k) (take len log) =
-      drop-cons (take len log) k d h ∙ ap (λ (x : Entry). x ∷ drop (suc k) (take len log)) (getD-take len log k d low ∙ sym is) in
+      let next : drop k (take len log) ≡ e ∷ drop (k + 1) (take len log) = rw is (front-cons len log k d low (omega (arith, all))) in
       let more : take written′ l′ ≡ take written l ++ line = rw (w, a) (more-text l₀ l line written (g .grown) fits short) in
       record {
         few = omega (arith, g .few);
@@ -57,7 +55,6 @@ module _ {board : ℕ} {log : List Entry} {len : ℕ} {l₀ : List ℕ} {k : ℕ
         ahead =
             ap (λ (x : List ℕ). x ++ logText board (k + 1) (drop (k + 1) (take len log))) more
             ∙ append-assoc (take written l) line (logText board (k + 1) (drop (k + 1) (take len log)))
-            ∙ ap (λ (x : ℕ). take written l ++ (line ++ logText board (k + 1) (drop x (take len log)))) (add-one k)
             ∙ ap (λ (x : List Entry). take written l ++ logText board k x) (sym next)
             ∙ g .ahead;
       }

@@ -6,9 +6,11 @@ use mathlib.Core.Path.{_≡_, refl, ap, sym, _∙_}
 use Prim.Native.Nat.{ℕ, zero, suc, _-_, _<_}
 use native.Mathlib.Omega.{arith}
 use lib.ListN.{length, getD}
-use borrow.Author.Tests.{eq-eqb, ne-eqb, leb-true}
+use lib.Dec.{leb→le}
+use borrow.Author.Tests.{eq-eqb, ne-eqb}
 use Rattle.rules.specs.Lists.{if_then_else_, within, _≤?_}
 use Rattle.rules.specs.Answers.{notForMe}
+use Rattle.rules.proofs.Lists.{and-l, and-r}
 use Rattle.board.specs.declared.Board.{Board}
 use Rattle.board.specs.declared.Stepped.{Stepped as BoardStepped}
 use Rattle.board.specs.Model.{stepOf as boardStep}
@@ -20,14 +22,6 @@ use Rattle.records.specs.declared.Receiver.{Receiver}
 use Rattle.records.specs.declared.Receiver.the-variants.{Board as toBoard, Shard as toShard, Nobody as toNobody}
 use Rattle.records.specs.Records.{receiverOf}
 use Rattle.delivery.specs.Register.{boardTurn, shardTurn, turnAt, turnOf, withBoard, withShard, boardAtStart, shardAtStart}
-
-and-left : (t u : Bool) → t && u ≡ true → t ≡ true
-and-left true u e = refl
-and-left false u e = e
-
-and-right : (t u : Bool) → t && u ≡ true → u ≡ true
-and-right true u e = e
-and-right false u e = let z : _≡_ {A = Bool} false true = e in cc
 
 -- within a list it does not matter what would stand past its end
 getD-any : {A : Type 0} (l : List A) (i : ℕ) (d e : A) → i < length l → getD l i d ≡ getD l i e
@@ -81,7 +75,7 @@ board-within n m address i e = by (within 1 8 address && address ≤? n) (within
         → (if t then toBoard (address - 1) else if u then toShard (address - 17) else toNobody) ≡ toBoard i → i < 8
     by true u a p =
         let z : address - 1 ≡ i = cc in
-        omega (arith, leb-true address 8 (and-right (1 ≤? address) (address ≤? 8) (and-left (within 1 8 address) (address ≤? n) a)))
+        omega (arith, leb→le address 8 (and-r (1 ≤? address) (address ≤? 8) (and-l (within 1 8 address) (address ≤? n) (rw a tt))))
     by false true a p = let z : _≡_ {A = ℕ} 0 1 = cc in absurd (omega arith)
     by false false a p = let z : _≡_ {A = ℕ} 0 1 = cc in absurd (omega arith)
 
@@ -94,5 +88,5 @@ shard-within n m address i e = by (within 1 8 address && address ≤? n) (within
     by true u a p = let z : _≡_ {A = ℕ} 0 1 = cc in absurd (omega arith)
     by false true a p =
         let z : address - 17 ≡ i = cc in
-        omega (arith, leb-true address 24 (and-right (17 ≤? address) (address ≤? 24) (and-left (within 17 24 address) (address - 16 ≤? m) a)))
+        omega (arith, leb→le address 24 (and-r (17 ≤? address) (address ≤? 24) (and-l (within 17 24 address) (address - 16 ≤? m) (rw a tt))))
     by false false a p = let z : _≡_ {A = ℕ} 0 1 = cc in absurd (omega arith)

@@ -84,6 +84,14 @@ touched-byte : (m : ℕ) (xs : List Item) → touchedMask m xs < 256
 touched-byte m [] = omega arith
 touched-byte m (x ∷ xs) = insert-byte (touchedMask m xs) _ (touched-byte m xs)
 
+pub exe-view : (m : ℕ) (e : Entry) → B.isEXE (viewEntry m e .status) ≡ e .exe
+unfolding viewEntry
+exe-view m e = go (e .exe)
+  where
+    go : (t : Bool) → B.isEXE (if t then B.EXE else B.PRE) ≡ t
+    go true = unfold if_then_else_ in refl
+    go false = unfold if_then_else_ in refl
+
 abbrev pub theWrite : ℕ → ℕ → ℕ → List Item → Write
 theWrite client number count items = record { client = client; number = number; operations = operationsOf count items }
 

@@ -18,12 +18,13 @@ use Rattle.frames.specs.declared.Item.{Item}
 use Rattle.frames.specs.Frames.{noItem, okItem, okFrom, okItems}
 use Rattle.frames.specs.View.{asOperation, asRead, operationsOf, readsOf}
 use Rattle.frames.proofs.Round.{enough}
+use Rattle.frames.proofs.Items.{key-of}
 use Rattle.entry.specs.declared.Entry.{Entry}
 use Rattle.entry.specs.Model as M
 use Rattle.entry.specs.Model.{inMask, beside, isOn, chosen, partOn, answeredOf, readsHeld}
 use Rattle.entry.specs.View.{setOf, saw, heardKey, viewEntry, isGet, ReadOf, EntryHeld}
 use Rattle.entry.proofs.Slots.{part-take}
-use Rattle.entry.proofs.Sets.{in-set, shard-number, key-of}
+use Rattle.entry.proofs.Sets.{in-set, shard-number}
 
 -- ---- Lists that rise
 

@@ -18,14 +18,14 @@ use Rattle.frames.specs.declared.Item.{Item}
 use Rattle.frames.specs.declared.Shape.the-variants.{Operation as AnOperation}
 use Rattle.frames.specs.Frames.{okItem, okFrom, okItems}
 use Rattle.frames.specs.View.{asOperation, asPlaced, asRead, operationsOf, placedOf, readsOf, CanonFrom, Canon}
-use Rattle.frames.proofs.Items.{ItemRules, item-rules}
+use Rattle.frames.proofs.Items.{ItemRules, item-rules, key-of}
 use Rattle.frames.proofs.Round.{enough}
 use Rattle.entry.specs.declared.Entry.{Entry}
 use Rattle.entry.specs.Model.{beside, isOn, chosen, partOn, agree, sameOperation, sameOperationsOf, samePlace, fitsOf, sameWriteOf}
 use Rattle.entry.specs.Model as M
 use Rattle.entry.specs.View.{writeOf, isGet}
 use Rattle.entry.proofs.Slots.{part-take}
-use Rattle.entry.proofs.Sets.{iff, shard-number, key-of}
+use Rattle.entry.proofs.Sets.{iff, shard-number}
 
 -- ---- Operations with their places
 

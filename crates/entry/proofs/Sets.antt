@@ -10,13 +10,14 @@ use lib.Dec.{T, eqb, eqb→eq, eqb-refl}
 use lib.ListN.{take}
 use mir.Facts.{yes-eqb, no-eqb, eqb-no}
 use Rattle.rules.specs.Lists.{if_then_else_, isEmpty, has, insert, strike}
-use Rattle.rules.specs.Transactions.{Operation, keyOf, shardOf, touched}
+use Rattle.rules.specs.Transactions.{shardOf, touched}
 use Rattle.rules.specs.Kept.{Ascending}
 use Rattle.rules.proofs.Lists.{by, if-yes, if-no, or-cases, or-left, or-right, T-true, T-false}
 use Rattle.rules.proofs.Sets.{insert-same, insert-old, insert-cases, strike-has}
 use Rattle.rules.proofs.Room.{insert-ascends, strike-ascends}
 use Rattle.frames.specs.declared.Item.{Item}
 use Rattle.frames.specs.View.{asOperation, operationsOf}
+use Rattle.frames.proofs.Items.{key-of}
 use Rattle.entry.specs.Model.{inMask, insertOf, strikeOf, isEmptyOf, shardNumber, touchedMask, touchedOf}
 use Rattle.entry.specs.View.{setFrom, setOf}
 use Rattle.entry.proofs.Masks.{in-range, in-insert, in-strike, empty-mask}
@@ -137,9 +138,6 @@ shard-number m key h = if-no (eqb m 0) 0 (shardOf m key) (no-eqb {a = m} {b = 0}
 pub shard-range : (m key : ℕ) → 1 ≤ m → m ≤ 8 → (1 ≤ shardOf m key) × (shardOf m key ≤ 8)
 unfolding shardOf
 shard-range m key lo hi = let h = mod-lt key {m = m} (omega arith) in (omega arith, omega arith)
-
-pub key-of : (x : Item) → keyOf (asOperation x) ≡ x .key
-key-of x = by (λ (o : Operation). keyOf o ≡ x .key) (eqb (x .code) 0) (λ t. refl) (λ t. refl)
 
 touched-all : (m : ℕ) → 1 ≤ m → m ≤ 8 → (xs : List Item) → setOf (touchedMask m xs) ≡ touched m (map asOperation xs)
 touched-all m lo hi [] = unfold setOf inMask if_then_else_ in refl

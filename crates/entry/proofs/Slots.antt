@@ -13,17 +13,9 @@ use Rattle.rules.specs.Lists.{if_then_else_}
 use Rattle.rules.proofs.Lists.{by}
 use Rattle.frames.specs.declared.Item.{Item}
 use Rattle.frames.specs.Frames.{noItem}
+use Rattle.frames.proofs.Cases.{four-of}
 use Rattle.entry.specs.declared.Part.{Part}
 use Rattle.entry.specs.Model.{touchOf, touchedMask, isGet, chosen, getsOf, samePlace, fitsOf, partOf, noPart, withOf, beside, agree, storedAll, keepRead}
-
--- an array of four is the list of its elements
-pub four : (l : List Item) → length l ≡ 4 → l ≡ getD l 0 noItem ∷ getD l 1 noItem ∷ getD l 2 noItem ∷ getD l 3 noItem ∷ []
-four [] e = absurd (omega arith)
-four (a ∷ []) e = absurd (omega arith)
-four (a ∷ b ∷ []) e = absurd (omega arith)
-four (a ∷ b ∷ c ∷ []) e = absurd (omega arith)
-four (a ∷ b ∷ c ∷ d ∷ []) e = refl
-four (a ∷ b ∷ c ∷ d ∷ x ∷ l) e = absurd (omega arith)
 
 -- four and more
 abbrev more : ℕ → ℕ
@@ -147,25 +139,25 @@ at l i = getD l i noItem
 
 pub touched-slots : (m n : ℕ) (l : List Item) → length l ≡ 4
     → touchOf (touchOf (touchOf (touchOf 0 m (ltb 3 n) (at l 3)) m (ltb 2 n) (at l 2)) m (ltb 1 n) (at l 1)) m (ltb 0 n) (at l 0) ≡ touchedMask m (take n l)
-touched-slots m n l h = touched-four m n (at l 0) (at l 1) (at l 2) (at l 3) ∙ ap (λ xs. touchedMask m (take n xs)) (sym (four l h))
+touched-slots m n l h = touched-four m n (at l 0) (at l 1) (at l 2) (at l 3) ∙ ap (λ xs. touchedMask m (take n xs)) (sym (four-of l h))
 
 pub stored-slots : (n : ℕ) (old l : List Item) → length l ≡ 4
     → keepRead (keepRead (keepRead (keepRead old (ltb 0 n) (at l 0)) (ltb 1 n) (at l 1)) (ltb 2 n) (at l 2)) (ltb 3 n) (at l 3) ≡ storedAll old (take n l)
-stored-slots n old l h = stored-four n old (at l 0) (at l 1) (at l 2) (at l 3) ∙ ap (λ xs. storedAll old (take n xs)) (sym (four l h))
+stored-slots n old l h = stored-four n old (at l 0) (at l 1) (at l 2) (at l 3) ∙ ap (λ xs. storedAll old (take n xs)) (sym (four-of l h))
 
 pub beside-slots : (ok : Item → Bool) (n : ℕ) (l k : List Item) → length l ≡ 4 → length k ≡ 4
     → withOf (withOf (withOf (withOf noPart (ltb 0 n && ok (at l 0)) (at k 0)) (ltb 1 n && ok (at l 1)) (at k 1)) (ltb 2 n && ok (at l 2)) (at k 2)) (ltb 3 n && ok (at l 3)) (at k 3)
     ≡ partOf (beside ok (take n l) k)
 beside-slots ok n l k h g =
     beside-four ok n (at l 0) (at l 1) (at l 2) (at l 3) (at k 0) (at k 1) (at k 2) (at k 3)
-    ∙ (λ i. partOf (beside ok (take n (sym (four l h) i)) (sym (four k g) i)))
+    ∙ (λ i. partOf (beside ok (take n (sym (four-of l h) i)) (sym (four-of k g) i)))
 
 pub agree-slots : (same : Item → Item → Bool) (n o : ℕ) (l k : List Item) → length l ≡ 4 → length k ≡ 4
     → (eqb n o && (leb n 0 || same (at l 0) (at k 0)) && (leb n 1 || same (at l 1) (at k 1)) && (leb n 2 || same (at l 2) (at k 2)) && (leb n 3 || same (at l 3) (at k 3)))
     ≡ (eqb n o && agree same (take n l) (take o k))
 agree-slots same n o l k h g =
     agree-four same n o (at l 0) (at l 1) (at l 2) (at l 3) (at k 0) (at k 1) (at k 2) (at k 3)
-    ∙ (λ i. eqb n o && agree same (take n (sym (four l h) i)) (take o (sym (four k g) i)))
+    ∙ (λ i. eqb n o && agree same (take n (sym (four-of l h) i)) (take o (sym (four-of k g) i)))
 
 -- ---- Parts
 

@@ -2,7 +2,7 @@
 -- Assumes nothing.
 use mathlib.Core.Path.{_≡_, refl, sym, ap, _∙_}
 use mathlib.Core.Bool.{_&&_}
-use mathlib.Core.List.{List, [], _∷_, _++_, append-assoc, append-nil}
+use mathlib.Core.List.{List, [], _++_, append-assoc, append-nil}
 use Prim.Native.Nat.{ℕ, _+_, _-_, _<_, _≤_}
 use native.Mathlib.Nat.{le-of-eq}
 use native.Mathlib.Omega.{arith}
@@ -13,7 +13,7 @@ use Rattle.rules.specs.Lists.{if_then_else_}
 use borrow.Author.Tests.{le-leb, lt-leb}
 use Rattle.rules.proofs.Lists.{by, and-r}
 use Rattle.frames.specs.declared.Frame.{Frame}
-use Rattle.frames.specs.Frames.{frameBytes, fits, writtenOf, laidOf, endOf, laidBehind, laidAll, framesBytes}
+use Rattle.frames.specs.Frames.{frameBytes, fits, writtenOf, laidOf, endOf, laidBehind}
 use Rattle.frames.proofs.Cases.{part}
 use Rattle.frames.proofs.Puts.{writes, lays}
 
@@ -69,23 +69,3 @@ lays-behind f p l k h =
     let u : drop (length p) (p ++ d) ≡ d = drop-at p d (length p) refl in
     let w : laidOf f d ≡ frameBytes f ++ drop (length (p ++ frameBytes f)) l = lays f d k r ∙ rw (drop-drop, e) in
     simp (le-leb (length p) (length (p ++ d)) a, t, u, w) (sym (append-assoc p (frameBytes f) (drop (length (p ++ frameBytes f)) l)))
-
--- each has at most four items
-abbrev pub AllFew : List Frame → Type 0
-AllFew [] = Unit
-AllFew (f ∷ fs) = (f .count ≤ 4) × AllFew fs
-
-all-behind : (fs : List Frame) (p l : List ℕ) → AllFew fs → length (p ++ framesBytes fs) ≤ length l
-    → laidAll fs (length p) (p ++ drop (length p) l) ≡ (p ++ framesBytes fs) ++ drop (length (p ++ framesBytes fs)) l
-all-behind [] p l k h = simp append-nil
-all-behind (f ∷ fs) p l (k, ks) h =
-    let s : p ++ framesBytes (f ∷ fs) ≡ (p ++ frameBytes f) ++ framesBytes fs = sym (append-assoc p (frameBytes f) (framesBytes fs)) in
-    let h′ : length ((p ++ frameBytes f) ++ framesBytes fs) ≤ length l = rw s at h in
-    let r : length (p ++ frameBytes f) ≤ length l = omega (arith, length-append (p ++ frameBytes f) (framesBytes fs)) in
-    let n : length (p ++ drop (length p) l) ≡ length l = omega (arith, length-append p (drop (length p) l), length-drop (length p) l, length-append p (frameBytes f)) in
-    rw (s, n, ends-behind f p l k r, lays-behind f p l k r) (all-behind fs (p ++ frameBytes f) l ks h′)
-
--- frames written in turn from the first byte on: their bytes back to back, and all other bytes as they were
-pub lays-all : (fs : List Frame) (out : List ℕ) → AllFew fs → length (framesBytes fs) ≤ length out
-    → laidAll fs 0 out ≡ framesBytes fs ++ drop (length (framesBytes fs)) out
-lays-all fs out k h = all-behind fs [] out k h

@@ -7,8 +7,8 @@ use lib.Arith.{digits-div, digits-mod}
 use native.Mathlib.Nat.{zero-add, not-suc-le-zero, le-of-suc-le-suc, mod-eq-of-lt, add-zero, add-suc, suc-add, add-assoc, mul-suc, mul-zero}
 use native.Mathlib.Numerals.{add-one, towards-suc}
 use native.Mathlib.Omega.{arith}
-use lib.ListN.{length, getD, take, drop}
-use lib.Seq.{drop-cons, getD-append-add, getD-drop}
+use lib.ListN.{length, getD, take, drop, length-take, drop-of-length-le}
+use lib.Seq.{drop-cons, getD-append-add, getD-drop, getD-take}
 use Rattle.rules.specs.Lists.{if_then_else_}
 use borrow.Author.Tests.{lt-ltb, le-ltb}
 use Rattle.rules.specs.Frames.{two, four, twoAt, fourAt}
@@ -47,6 +47,16 @@ four-of a b c d ha hb hc hd =
     )
 
 -- ---- Elements by their places
+
+-- the first n of a list from i on: what a loop over an array has before it
+module _ {A : Type 0} (n : ℕ) (l : List A) (i : ℕ) where
+  pub front-cons : (d : A) → i < n → i < length l → drop i (take n l) ≡ getD l i d ∷ drop (i + 1) (take n l)
+  front-cons d h k =
+      let m : i < length (take n l) = simp length-take (omega arith) in
+      rw (add-one, drop-cons (take n l) i d m, getD-take n l i d h)
+
+  pub front-end : n ≤ i → drop i (take n l) ≡ []
+  front-end h = drop-of-length-le (take n l) {i = i} (simp length-take (omega arith))
 
 -- the m elements from `at` on; past the end z
 abbrev pub gets : {A : Type 0} → A → ℕ → ℕ → List A → List A

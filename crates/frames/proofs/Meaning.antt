@@ -333,7 +333,7 @@ reads-mean s b = reads s b (λ (f : Frame). readFrame s ≡ f → meaning f ≡ 
     refused e (some g) d =
         let p = decode-spells s g d in
         let r = recorded g (p .rules) in
-        let q : readFrame s ≡ recordOf g = rw (record-bytes g (p .rules) ∙ p .bytes) at (frame-back (recordOf g) (r .right) (r .canon)) in
+        let q : readFrame s ≡ recordOf g = rw (record-bytes g (p .rules) ∙ p .bytes) at (record-back g (p .rules)) in
         absurd (says badFrame (rw (sym q ∙ e) at (r .right)) (unfold meaning badFrame in refl))
 
     accepted : (f : Frame) → Spells s f → (o : Option F.Frame) → meaning f ≡ o → meaning f ≡ decode s
@@ -360,11 +360,7 @@ promised s f b e =
 
 -- ---- What an agent needs of a frame that it read, and of one that it sends
 
--- what was read and is no refusal is right, lies as it should, and spells the bytes
-pub read-spells : (s : List ℕ) → Bytes s → T (not (isBad (readFrame s .head))) → Spells s (readFrame s)
-read-spells s b = reads s b (λ (f : Frame). T (not (isBad (f .head))) → Spells s f) (unfold badFrame in (λ t. absurd t)) (λ f g t. g)
-
--- a refusal lies as it should, too
+-- what was read lies as it should, a refusal too
 pub read-canon : (s : List ℕ) → Bytes s → CanonFrame (readFrame s)
 read-canon s b = reads s b CanonFrame (unfold badFrame in (refl, (refl, (refl, (refl, (refl, tt)))))) (λ f g. g .canon)
 
@@ -424,33 +420,6 @@ unfolding valid meaning Obeying
 valid-of f g t e o =
     let m : Obeying (meant (f .head) (f .count) (f .items)) = rw e o in
     and (okHead (f .head) (f .count)) (okItems (f .count) (f .items)) (head-allowed (f .head) (f .count) (f .items) (speaks (f .head) (f .count) (f .items) g e) t m) t
-
--- a right record that lies as it should is the record of what it means
-recordOfMeant : Option F.Frame → Frame
-recordOfMeant none = badFrame
-recordOfMeant (some g) = recordOf g
-
-record-meant : (h : Head) (n : ℕ) (xs : List Item) → isBad h ≡ false → T (okItems n xs) → length xs ≡ 4 → Canon (shapeOf h) n xs
-    → recordOfMeant (meant h n xs) ≡ record { head = h; count = n; items = xs }
-unfolding recordOfMeant
-record-meant Bad n xs b t l c = let z : _≡_ {A = ℕ} 0 1 = cc in absurd (omega arith)
-record-meant (Submit client number ack) n xs b t l c =
-    λ i. record { head = Submit client number ack; count = I.view-length asOperation 0 n xs t i; items = (rw l at (I.operations-made 0 0 n xs t c)) i }
-record-meant (Forward log client number ack) n xs b t l c =
-    λ i. record { head = Forward log client number ack; count = I.view-length asOperation 0 n xs t i; items = (rw l at (I.operations-made 0 0 n xs t c)) i }
-record-meant (ShardAppend shard log sn) n xs b t l c =
-    λ i. record { head = ShardAppend shard log sn; count = I.view-length asPlaced 0 n xs t i; items = (rw l at (I.items-made asPlaced placedItem Placed I.placed-made 0 0 n xs t c)) i }
-record-meant (ExecNotif shard log) n xs b t l c =
-    λ i. record { head = ExecNotif shard log; count = I.view-length asRead 0 n xs t i; items = (rw l at (I.items-made asRead readItem Read I.read-made 0 0 n xs t c)) i }
-record-meant (Executed log) n xs b t l c =
-    λ i. record { head = Executed log; count = I.view-length asRead 0 n xs t i; items = (rw l at (I.items-made asRead readItem Read I.read-made 0 0 n xs t c)) i }
-record-meant (Response client number) n xs b t l c =
-    λ i. record { head = Response client number; count = I.view-length asRead 0 n xs t i; items = (rw l at (I.items-made asRead readItem Read I.read-made 0 0 n xs t c)) i }
-
-pub record-of : (f : Frame) (g : F.Frame) → T (okItems (f .count) (f .items)) → CanonFrame f → meaning f ≡ some g → recordOf g ≡ f
-unfolding meaning recordOfMeant
-record-of f g t (l, c) e =
-    ap recordOfMeant (sym e) ∙ record-meant (f .head) (f .count) (f .items) (speaks (f .head) (f .count) (f .items) g e) t l c
 
 -- the reader of a front means the rules' reading of the bytes up to the end that it gives
 pub front-means : (s : List ℕ) → Bytes s → meaning (readFront s .frame) ≡ decode (take (readFront s .end) s)

@@ -191,10 +191,6 @@ unfolding listed
 listed-canon body b h =
     let n : ℕ = byteAt body (fieldWidth h) in (refl, slots-canon body b (shapeOf h) 4 n 0 n (fieldWidth h + 1) (sym (zero-add n)))
 
-listed-head : (body : List ℕ) (h : Head) → listed h body .head ≡ h
-unfolding listed
-listed-head body h = refl
-
 -- length, header and body are the front of the bytes
 front-parts : (s : List ℕ) (m : ℕ) → gets 0 2 0 s ++ (gets 0 2 2 s ++ gets 0 m bodyAt s) ≡ gets 0 (2 + (2 + m)) 0 s
 front-parts s m = ap (λ (l : List ℕ). gets 0 2 0 s ++ l) (gets-append 0 2 m 2 s) ∙ gets-append 0 2 (2 + m) 0 s

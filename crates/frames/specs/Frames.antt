@@ -253,11 +253,6 @@ endOf f at room = if at ≤? room then at + writtenOf f (room - at) else at
 unfoldable pub laidBehind : Frame → ℕ → List ℕ → List ℕ
 laidBehind f at out = if at ≤? length out then take at out ++ laidOf f (drop at out) else out
 
--- frames written one behind the other, the first at `at`
-abbrev pub laidAll : List Frame → ℕ → List ℕ → List ℕ
-laidAll [] at out = out
-laidAll (f ∷ fs) at out = laidAll fs (endOf f at (length out)) (laidBehind f at out)
-
--- their bytes back to back
+-- the bytes of frames back to back
 abbrev pub framesBytes : List Frame → List ℕ
 framesBytes fs = backToBack frameBytes fs

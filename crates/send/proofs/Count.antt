@@ -2,15 +2,15 @@
 -- Assumes nothing.
 use mathlib.Core.Path.{_≡_, refl, sym}
 use mathlib.Core.Bool.{Bool, true, false}
-use mathlib.Core.List.{List, [], _∷_}
+use mathlib.Core.List.{List}
 use Prim.Native.Nat.{ℕ, _+_, _≤_, _<_, min}
-use native.Mathlib.Numerals.{add-one}
 use native.Mathlib.Omega.{arith}
-use lib.ListN.{length, getD, take, drop, length-take, drop-of-length-le}
-use lib.Seq.{drop-cons, getD-take, take-all}
+use lib.ListN.{length, getD, take, drop}
+use lib.Seq.{take-all}
 use lib.Dec.{leb}
 use borrow.Author.Tests.{leb-true, leb-false}
 use Rattle.rules.specs.Lists.{if_then_else_}
+use Rattle.frames.proofs.Lists.{front-cons, front-end}
 use Rattle.entry.specs.Model.{inMask}
 use Rattle.send.specs.Model.{countIn}
 
@@ -20,15 +20,12 @@ module _ (shard n : ℕ) (masks : List ℕ) (i count : ℕ) (e : count + countIn
 
   pub count-turn : (inside : Bool) (k : ℕ) → i < n → i < length masks → inside ≡ inMask (getD masks i 0) shard → k ≡ count + (if inside then 1 else 0) → Passed k
   count-turn inside k h l t f =
-      let m : i < length (take n masks) = simp length-take (omega arith) in
-      let c : drop i (take n masks) ≡ getD masks i 0 ∷ drop (i + 1) (take n masks) = rw (add-one, drop-cons (take n masks) i 0 m, getD-take n masks i 0 h) in
-      let d : countIn shard (drop i (take n masks)) ≡ (if inside then 1 else 0) + countIn shard (drop (i + 1) (take n masks)) = rw (c, ← t) in
+      let d : countIn shard (drop i (take n masks)) ≡ (if inside then 1 else 0) + countIn shard (drop (i + 1) (take n masks)) = rw (front-cons n masks i 0 h l, ← t) in
       omega arith
 
   pub count-end : n ≤ i → count ≡ countIn shard (take n masks)
   count-end h =
-      let z : drop i (take n masks) ≡ [] = drop-of-length-le (take n masks) {i = i} (simp length-take (omega arith)) in
-      let d : countIn shard (drop i (take n masks)) ≡ 0 = rw z in
+      let d : countIn shard (drop i (take n masks)) ≡ 0 = rw (front-end n masks i h) in
       omega arith
 
 -- past the end of an array nothing is counted

@@ -22,10 +22,6 @@ use Rattle.send.proofs.Room.{Fits, bytes-one, to-yes, to-no, bytes-yes,
 
 -- ---- One frame
 
-pub laid-none : (l : List ℕ) → l ≡ laid [] l
-unfolding laid bytesOf
-laid-none l = refl
-
 pub laid-length : (fs : List Frame) (l : List ℕ) → length (bytesOf fs) ≤ length l → length (laid fs l) ≡ length l
 unfolding laid
 laid-length fs l h = omega (arith, length-append (bytesOf fs) (drop (length (bytesOf fs)) l), length-drop (length (bytesOf fs)) l)

@@ -17,7 +17,7 @@ use Rattle.rules.specs.Frames as F
 use Rattle.rules.specs.Frames.{shardAppend, executed, response}
 use Rattle.rules.specs.Outcomes.{sentBytes}
 use Rattle.rules.specs.Board as B
-use Rattle.rules.specs.Board.{PRE, EXE, isEXE, writes, touching, forwardOf, shardAppendOf, backward, onward}
+use Rattle.rules.specs.Board.{writes, touching, forwardOf, shardAppendOf, backward, onward}
 use Rattle.rules.proofs.Lists.{if-no}
 use Rattle.rules.proofs.Sets.{part-some}
 use Rattle.rules.proofs.Counts.{touching-cons}
@@ -35,6 +35,7 @@ use Rattle.entry.specs.View.{setFrom, setOf, writeOf, viewEntry, EntryHeld}
 use Rattle.entry.proofs.Sets.{in-set, touched-set}
 use Rattle.entry.proofs.Meaning.{part-view}
 use Rattle.entry.proofs.Held.{part-right, held-reads, held-right}
+use Rattle.entry.proofs.Entries.{exe-view}
 use Rattle.send.specs.Model.{bytesOf, laid, Sends, countIn, forwardFrame, backwardOf, appendFrame, goes, appendAt, appendsTo, onwardOf, sendParts}
 use Rattle.send.specs.View.{maskOf, PartsOf, Means}
 use Rattle.send.specs.declared.Sent.{Sent}
@@ -182,14 +183,6 @@ module _ (b : B.Board) (es : List Entry) (e : Entry) (n m own floor ind : ℕ) (
       one j true q = rw (remains-goes j (sym q)) (unfold if_then_else_ in (append-means j))
       one j false q = rw (struck-stays j (sym q)) (unfold if_then_else_ in tt)
 
-  exe-is : isEXE (view .status) ≡ e .exe
-  unfolding viewEntry
-  exe-is = go (e .exe)
-    where
-      go : (t : Bool) → isEXE (if t then EXE else PRE) ≡ t
-      go true = unfold if_then_else_ in refl
-      go false = unfold if_then_else_ in refl
-
   remaining-is : view .remaining ≡ setTo (e .remaining) 8
   unfolding viewEntry
   remaining-is = set-to (e .remaining)
@@ -208,7 +201,7 @@ module _ (b : B.Board) (es : List Entry) (e : Entry) (n m own floor ind : ℕ) (
   onward-means =
       subst (M.Sends (onwardOf e n m own floor ind masks))
       (λ i.
-      if sym exe-is i then backward b ind view ∷ [] else
+      if sym (exe-view m e) i then backward b ind view ∷ [] else
       if ltb (sym (p .own-is) i) (sym (p .n-is) i) then forwardOf b ind (view .write) ∷ [] else
       map (shardAppendOf b ind (view .write)) (view .remaining))
       (onward-at (e .exe) (ltb own n))

@@ -18,12 +18,13 @@ use Rattle.rules.specs.Answers.{breaksRule, notForMe, tooEarly, tooLate, doesNo
 use Rattle.rules.specs.Outcomes.{taken, refuse}
 use Rattle.rules.specs.Outcomes as O
 use Rattle.rules.specs.Shard as S
-use Rattle.rules.proofs.Lists.{by, and-l, and-r}
+use Rattle.rules.proofs.Lists.{and-l, and-r}
 use Rattle.frames.specs.declared.Item.{Item}
 use Rattle.frames.specs.declared.Head.{Head}
 use Rattle.frames.specs.declared.Head.the-variants.{Bad, Submit, Forward, ShardAppend, ExecNotif, Executed, Response}
 use Rattle.frames.specs.declared.Frame.{Frame}
 use Rattle.frames.specs.View.{asOperation, asPlaced, meant, recordOf}
+use Rattle.frames.proofs.Items.{key-of}
 use Rattle.shard.specs.declared.Shard.{Shard}
 use Rattle.shard.specs.declared.Verdict.{Verdict}
 use Rattle.shard.specs.Model.{mine, allMine, refused, judgeAppend, judgeHead, noReads, execNotif, Outcome, after, settled}
@@ -31,9 +32,6 @@ use Rattle.shard.specs.View.{viewStore, viewLast, viewShard, readsRecord
 use Rattle.shard.proofs.Runs.{Keys, ran-means}
 
 -- ---- The tests
-
-key-of : (x : Item) → keyOf (asOperation x) ≡ x .key
-key-of x = by (λ (o : Operation). keyOf o ≡ x .key) (x .code =? 0) (λ t. refl) (λ t. refl)
 
 -- with at least one group, the rules' test of a list is the code's
 mine-same : (m own : ℕ) (xs : List Item) → 1 ≤ m → every (λ x. shardOf m (keyOf (x .operation)) =? own) (map asPlaced xs) ≡ allMine m own xs
