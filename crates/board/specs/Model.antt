@@ -15,7 +15,7 @@ use Rattle.frames.specs.Frames.{readFrame}
 use Rattle.entry.specs.declared.Entry.{Entry}
 use Rattle.entry.specs.Model.{isEmptyOf, touchedOf, noEntry}
 use Rattle.queue.specs.declared.Queue.{Queue}
-use Rattle.queue.specs.Model.{noQueue, pushedAll, takenAll}
+use Rattle.queue.specs.Model.{noQueue, changedAll}
 use Rattle.send.specs.Model.{sendParts, bytesOf, laid}
 use Rattle.verdict.specs.declared.Verdict.{Verdict}
 use Rattle.verdict.specs.Model.{nextOf, floorOf, judgeOf}
@@ -91,9 +91,7 @@ followedOf next fresh client number = if fresh then set next client (number + 1)
 
 unfoldable pub queuesAfter : List Queue → Bool → ℕ → ℕ → List Queue
 queuesAfter queues fresh shards ind =
-    if isEmptyOf shards then queues else
-    if fresh then pushedAll queues shards ind else
-    takenAll queues shards ind
+    if isEmptyOf shards then queues else changedAll queues fresh shards ind
 
 unfoldable pub framesOf : Bool → Entry → ℕ → ℕ → ℕ → List ℕ → ℕ → List ℕ → ℕ → List Frame
 framesOf sends e n m own floor ind touched room =

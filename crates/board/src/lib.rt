@@ -219,11 +219,7 @@ fn queues_after(queues: [Queue; 8], fresh: bool, shards: u8, log_number: LogNumb
     if entry::is_empty(shards) {
         return queues;
     }
-    if fresh {
-        queue::pushed_all(queues, shards, log_number)
-    } else {
-        queue::taken_all(queues, shards, log_number)
-    }
+    queue::changed_all(queues, fresh, shards, log_number)
 }
 
 // The frames that the entry makes this board send, or none.

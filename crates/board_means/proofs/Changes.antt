@@ -29,7 +29,7 @@ use Rattle.entry.specs.View.{setOf, writeOf, viewEntry, EntryHeld}
 use Rattle.entry.proofs.Sets.{touched-set}
 use Rattle.entry.proofs.Entries.{theWrite, new-view}
 use Rattle.queue.specs.declared.Queue.{Queue}
-use Rattle.queue.specs.Model.{pushedAll, takenAll}
+use Rattle.queue.specs.Model.{changedAll}
 use Rattle.queue.specs.View.{viewQueues, QueuesHeld}
 use Rattle.queue.proofs.Meaning.{pushed-view, taken-view, pushed-held, taken-held}
 use Rattle.verdict.specs.declared.Verdict.{Verdict}
@@ -79,9 +79,9 @@ queues-view queues fresh shards ind most h m =
     by (λ (qs : List Queue). viewQueues qs ≡ onQueues (setOf shards) (queueing fresh ind) (viewQueues queues)) (isEmptyOf shards)
     (λ t. let e : shards ≡ 0 = eqb→eq shards 0 t in rw e (sym (no-queues (queueing fresh ind) (viewQueues queues)))) (λ t. go fresh)
   where
-    go : (fresh : Bool) → viewQueues (if fresh then pushedAll queues shards ind else takenAll queues shards ind) ≡ onQueues (setOf shards) (queueing fresh ind) (viewQueues queues)
-    go true = unfold if_then_else_ in (pushed-view queues shards ind most h m)
-    go false = unfold if_then_else_ in (taken-view queues shards ind most h (omega arith))
+    go : (fresh : Bool) → viewQueues (changedAll queues fresh shards ind) ≡ onQueues (setOf shards) (queueing fresh ind) (viewQueues queues)
+    go true = pushed-view queues shards ind most h m
+    go false = taken-view queues shards ind most h (omega arith)
 
 -- the same where only numbers are taken, also from a full queue
 pub taken-queues : (queues : List Queue) (shards ind most : ℕ) → QueuesHeld most queues → most ≤ 256
@@ -90,18 +90,18 @@ unfolding queuesAfter
 taken-queues queues shards ind most h m =
     by (λ (qs : List Queue). viewQueues qs ≡ onQueues (setOf shards) (takeUpTo ind) (viewQueues queues)) (isEmptyOf shards)
     (λ t. let e : shards ≡ 0 = eqb→eq shards 0 t in rw e (sym (no-queues (takeUpTo ind) (viewQueues queues))))
-    (λ t. unfold if_then_else_ in (taken-view queues shards ind most h m))
+    (λ t. taken-view queues shards ind most h m)
 
 taken-lie : (queues : List Queue) (shards ind most : ℕ) → QueuesHeld most queues → most ≤ 256 → QueuesHeld most (queuesAfter queues false shards ind)
 unfolding queuesAfter
-taken-lie queues shards ind most h m = by (QueuesHeld most) (isEmptyOf shards) (λ t. h) (λ t. unfold if_then_else_ in (taken-held queues shards ind most m h))
+taken-lie queues shards ind most h m = by (QueuesHeld most) (isEmptyOf shards) (λ t. h) (λ t. taken-held queues shards ind most m h)
 
 pushed-lie : (queues : List Queue) (shards ind most : ℕ) → QueuesHeld most queues → QueuesHeld (most + 1) (queuesAfter queues true shards ind)
 unfolding queuesAfter
 pushed-lie queues shards ind most h =
     rw (add-one most)
     (by (QueuesHeld (suc most)) (isEmptyOf shards) (λ t. record { eight = h .eight; each = λ i l. let k = h .each i l in record { slots = k .slots; few = let f = k .few in omega arith } })
-    (λ t. unfold if_then_else_ in (pushed-held queues shards ind most h)))
+    (λ t. pushed-held queues shards ind most h))
 
 -- ---- The changes
 
@@ -119,7 +119,7 @@ module _ (b : Board) (c : Columns b) where
       let f = c .few in
       rw (slot-is ind (omega arith)) (at-take (b .log) ind (b .len) blank h (omega arith))
 
-  module _ (ind : ℕ) (e e′ : Entry) (a : at (entriesOf b) ind ≡ some e) (same : writeOf e′ ≡ writeOf e) (name : nameIn e′ ≡ nameIn e) (mask : maskIn (b .m) e′ ≡ maskIn (b .m) e)
+  module _ (ind : ℕ) (e e′ : Entry) (a : at (entriesOf b) ind ≡ some e) (same : writeOf e′ ≡ writeOf e)
       (held : EntryHeld (b .m) e′) (answer ack shards : ℕ) (sends : Bool) where
     -- an entry replaced
     abbrev pub verdict : Verdict
@@ -182,15 +182,8 @@ module _ (b : Board) (c : Columns b) where
     unfolding viewBoard holding boardAfter
     replaced-view h =
         λ i.
-        record {
-          started = b .started;
-          n = b .n;
-          m = b .m;
-          own = b .own;
-          log = (ap (viewLog (b .m)) entries-replaced ∙ log-replaced) i;
-          floor = floor-view (b .floor) (e′ .client) ack (let f = c .floors in omega arith) i;
-          queue = taken-queues (b .queues) shards ind (b .len) (c .queues) (c .few) i;
-        }
+        holding ((ap (viewLog (b .m)) entries-replaced ∙ log-replaced) i) (floor-view (b .floor) (e′ .client) ack (let f = c .floors in omega arith) i)
+        (taken-queues (b .queues) shards ind (b .len) (c .queues) (c .few) i) (viewBoard b)
 
   module _ (client number ack count : ℕ) (items : List Item) (lo : 1 ≤ b .m) (hi : b .m ≤ 8) (room : b .len < 256) (small : client < 16)
       (next : number ≡ nextNumber client (writes (viewLog (b .m) (entriesOf b)))) (held : EntryHeld (b .m) (newEntryOf (b .m) client number count items)) where
@@ -256,14 +249,7 @@ module _ (b : Board) (c : Columns b) where
     unfolding viewBoard append raiseFloor holding boardAfter newEntryOf
     longer-view =
         λ i.
-        record {
-          started = b .started;
-          n = b .n;
-          m = b .m;
-          own = b .own;
-          log = (ap (viewLog (b .m)) entries-longer ∙ log-longer) i;
-          floor = floor-view (b .floor) client ack (let f = c .floors in omega arith) i;
-          queue =
-              (queues-view (b .queues) true (theNew .remaining) (b .len) (b .len) (c .queues) room
-              ∙ (λ k. onQueues (touched-set (b .m) count items lo hi k) (enqueue (sym view-length k)) (viewQueues (b .queues)))) i;
-        }
+        holding ((ap (viewLog (b .m)) entries-longer ∙ log-longer) i) (floor-view (b .floor) client ack (let f = c .floors in omega arith) i)
+        ((queues-view (b .queues) true (theNew .remaining) (b .len) (b .len) (c .queues) room
+        ∙ (λ k. onQueues (touched-set (b .m) count items lo hi k) (enqueue (sym view-length k)) (viewQueues (b .queues)))) i)
+        (viewBoard b)

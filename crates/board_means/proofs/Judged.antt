@@ -17,7 +17,7 @@ use Rattle.rules.specs.Outcomes as O
 use Rattle.rules.specs.Outcomes.{sentBytes, taken, refuse}
 use Rattle.rules.specs.Queue.{takeUpTo}
 use Rattle.rules.specs.Board as B
-use Rattle.rules.specs.Board.{isEXE, PRE, EXE, writes, nextNumber, find, holding, onQueues, raiseFloor, append, newEntry, settle, backward, onward, serveNew, serveHeld, serveFound, submitStep, forwardStep, heardFrom, execNotifStep, finished, executedStep, logSize}
+use Rattle.rules.specs.Board.{isEXE, writes, nextNumber, find, holding, onQueues, raiseFloor, append, newEntry, settle, backward, onward, serveNew, serveHeld, serveFound, submitStep, forwardStep, heardFrom, execNotifStep, finished, executedStep, logSize}
 use Rattle.rules.specs.Kept.{ofClient, Counted}
 use Rattle.rules.proofs.Lists.{by, if-yes, if-no, yes-of, nothing, at-lt, strike-sub, T-true, at-snoc-new}
 use Rattle.rules.proofs.Frames.{WriteRules}
@@ -35,7 +35,7 @@ use Rattle.entry.specs.View.{setOf, writeOf, viewEntry, EntryHeld}
 use Rattle.entry.proofs.Sets.{in-set, insert-set, strike-set, touched-set}
 use Rattle.entry.proofs.Slots.{beside-few, part-slots}
 use Rattle.entry.proofs.Meaning.{placed-view, part-view, same-write-view, fits-view}
-use Rattle.entry.proofs.Entries.{Carried, theWrite, new-view, new-held, heard-view, heard-held, finished-view, finished-held}
+use Rattle.entry.proofs.Entries.{Carried, theWrite, new-view, new-held, heard-view, heard-held, finished-view, finished-held, exe-view}
 use Rattle.send.specs.Model.{bytesOf, onwardOf, sendParts}
 use Rattle.send.specs.View.{PartsOf}
 use Rattle.send.proofs.Meaning.{onward-count, onward-bytes}
@@ -165,14 +165,13 @@ module _ (b : Board) (held : Held b) (ready : T (b .started)) (lo : 1 ≤ b .m) 
 
   -- ---- An entry replaced
 
-  module _ (ind : ℕ) (l : ind < b .len) (e′ : Entry) (write : writeOf e′ ≡ writeOf (entryAt (b .log) ind)) (name : nameIn e′ ≡ nameIn (entryAt (b .log) ind))
-      (mask : maskIn (b .m) e′ ≡ maskIn (b .m) (entryAt (b .log) ind)) (kept : EntryHeld (b .m) e′)
+  module _ (ind : ℕ) (l : ind < b .len) (e′ : Entry) (write : writeOf e′ ≡ writeOf (entryAt (b .log) ind)) (kept : EntryHeld (b .m) e′)
       (touched-left : (j : ℕ) → T (has j (setOf (e′ .remaining))) → T (touches (b .m) j (operationsOf (e′ .count) (e′ .items)))) (ack shards : ℕ) (sends : Bool) where
     abbrev old : Entry
     old = entryAt (b .log) ind
 
     abbrev replacing : Verdict
-    replacing = verdict b c ind old e′ (old-entry b c ind l) write name mask kept 0 ack shards sends
+    replacing = verdict b c ind old e′ (old-entry b c ind l) write kept 0 ack shards sends
 
     abbrev moved : Board
     moved = boardAfter b ind replacing
@@ -182,17 +181,17 @@ module _ (b : Board) (held : Held b) (ready : T (b .started)) (lo : 1 ≤ b .m) 
     client-small = let k = kept .kept .client in omega arith
 
     columns : Columns moved
-    columns = replaced-columns b c ind old e′ (old-entry b c ind l) write name mask kept 0 ack shards sends
+    columns = replaced-columns b c ind old e′ (old-entry b c ind l) write kept 0 ack shards sends
 
     there : at (entriesOf moved) ind ≡ some e′
     there =
-        ap (λ (x : List Entry). at x ind) (entries-replaced b c ind old e′ (old-entry b c ind l) write name mask kept 0 ack shards sends)
+        ap (λ (x : List Entry). at x ind) (entries-replaced b c ind old e′ (old-entry b c ind l) write kept 0 ack shards sends)
         ∙ at-set (entriesOf b) ind e′ (let k = entries-length b c in omega arith)
 
     after : holding (set (viewBoard b .log) ind (viewEntry (b .m) e′)) (changed (viewBoard b .floor) (e′ .client) (max (viewBoard b .floor (e′ .client)) ack))
         (onQueues (setOf shards) (takeUpTo ind) (viewBoard b .queue)) (viewBoard b)
         ≡ viewBoard moved
-    after = sym (replaced-view b c ind old e′ (old-entry b c ind l) write name mask kept 0 ack shards sends client-small)
+    after = sym (replaced-view b c ind old e′ (old-entry b c ind l) write kept 0 ack shards sends client-small)
 
     frames-after : Sends (framesOf true e′ (b .n) (b .m) (b .own) (moved .floor) ind (moved .touched) room) (onward (viewBoard moved) ind (viewEntry (b .m) e′))
     unfolding framesOf boardAfter if_then_else_
@@ -207,13 +206,13 @@ module _ (b : Board) (held : Held b) (ready : T (b .started)) (lo : 1 ≤ b .m) 
   unfolding takenStep taken
   served ind ack l =
       let e : Entry = entryAt (b .log) ind in
-      let is : viewBoard (moved ind l (entryAt (b .log) ind) refl refl refl (entry-held ind l) (left-touched ind l) ack 0 true) ≡ raiseFloor (entryAt (b .log) ind .client) ack (viewBoard b)
-      = sym (after ind l (entryAt (b .log) ind) refl refl refl (entry-held ind l) (left-touched ind l) ack 0 true) ∙ same-board ind ack l in
+      let is : viewBoard (moved ind l (entryAt (b .log) ind) refl (entry-held ind l) (left-touched ind l) ack 0 true) ≡ raiseFloor (entryAt (b .log) ind .client) ack (viewBoard b)
+      = sym (after ind l (entryAt (b .log) ind) refl (entry-held ind l) (left-touched ind l) ack 0 true) ∙ same-board ind ack l in
       record {
-        columns = columns ind l (entryAt (b .log) ind) refl refl refl (entry-held ind l) (left-touched ind l) ack 0 true;
+        columns = columns ind l (entryAt (b .log) ind) refl (entry-held ind l) (left-touched ind l) ack 0 true;
         answer = refl;
         state = is;
-        frames = rw (← is) (frames-after ind l (entryAt (b .log) ind) refl refl refl (entry-held ind l) (left-touched ind l) ack 0 true);
+        frames = rw (← is) (frames-after ind l (entryAt (b .log) ind) refl (entry-held ind l) (left-touched ind l) ack 0 true);
       }
     where
       same-board : (ind ack : ℕ) (l : ind < b .len)
@@ -448,14 +447,6 @@ module _ (b : Board) (held : Held b) (ready : T (b .started)) (lo : 1 ≤ b .m) 
   backward-only q ind e x o =
       rw (x, o) (unfold if_then_else_ in refl)
 
-  shown-exe : (m : ℕ) (e : Entry) → isEXE (viewEntry m e .status) ≡ e .exe
-  unfolding viewEntry
-  shown-exe m e = go (e .exe)
-    where
-      go : (t : Bool) → isEXE (if t then EXE else PRE) ≡ t
-      go true = unfold if_then_else_ in refl
-      go false = unfold if_then_else_ in refl
-
   -- ---- ExecNotif
 
   module _ (j ind k : ℕ) (rs : List Item) (low : 1 ≤ j) (high : j ≤ 8) (carried : Carried k rs) (l : ind < b .len) where
@@ -476,14 +467,6 @@ module _ (b : Board) (held : Held b) (ready : T (b .started)) (lo : 1 ≤ b .m) 
       unfolding heardFromOf writeOf
       heard-write = refl
 
-      heard-name : nameIn now-heard ≡ nameIn was
-      unfolding heardFromOf
-      heard-name = refl
-
-      heard-mask : maskIn (b .m) now-heard ≡ maskIn (b .m) was
-      unfolding heardFromOf
-      heard-mask = refl
-
       heard-left : (i : ℕ) → T (has i (setOf (now-heard .remaining))) → T (touches (b .m) i (operationsOf (now-heard .count) (now-heard .items)))
       unfolding heardFromOf
       heard-left i t = left-touched ind l i (strike-sub i j (setOf (was .remaining)) (rw (strike-set (was .remaining) j) at t))
@@ -494,24 +477,27 @@ module _ (b : Board) (held : Held b) (ready : T (b .started)) (lo : 1 ≤ b .m) 
           empty : setOf 0 ≡ []
           empty = unfold setOf inMask if_then_else_ in refl
 
-      heard-board : viewBoard (moved ind l now-heard heard-write heard-name heard-mask heard-kept heard-left 0 (insertOf 0 j) (now-heard .exe))
+      abbrev heard-after : Board
+      heard-after = moved ind l now-heard heard-write heard-kept heard-left 0 (insertOf 0 j) (now-heard .exe)
+
+      heard-board : viewBoard heard-after
           ≡ settle ind (heardFrom j (readsOf k rs) (viewEntry (b .m) was)) (j ∷ []) (viewBoard b)
       unfolding settle
       heard-board =
-          sym (after ind l now-heard heard-write heard-name heard-mask heard-kept heard-left 0 (insertOf 0 j) (now-heard .exe))
+          sym (after ind l now-heard heard-write heard-kept heard-left 0 (insertOf 0 j) (now-heard .exe))
           ∙ (λ i. holding (set (viewBoard b .log) ind (heard-is i)) (floor-still (viewBoard b .floor) (now-heard .client) i) (onQueues (one-shard i) (takeUpTo ind) (viewBoard b .queue)) (viewBoard b))
 
       heard-frames : (x : Bool) → now-heard .exe ≡ x
-          → Sends (framesOf x now-heard (b .n) (b .m) (b .own) (moved ind l now-heard heard-write heard-name heard-mask heard-kept heard-left 0 (insertOf 0 j) (now-heard .exe) .floor) ind
-          (moved ind l now-heard heard-write heard-name heard-mask heard-kept heard-left 0 (insertOf 0 j) (now-heard .exe) .touched) room)
+          → Sends (framesOf x now-heard (b .n) (b .m) (b .own) (heard-after .floor) ind
+          (heard-after .touched) room)
           (if x then backward (viewBoard b) ind (heardFrom j (readsOf k rs) (viewEntry (b .m) was)) ∷ [] else [])
       unfolding framesOf if_then_else_
       heard-frames true e =
-          let same = backward-only (viewBoard (moved ind l now-heard heard-write heard-name heard-mask heard-kept heard-left 0 (insertOf 0 j) (now-heard .exe))) ind (viewEntry (b .m) now-heard)
-          (shown-exe (b .m) now-heard ∙ e) own-stays in
-          rw (← heard-is) (rw same at (frames-after ind l now-heard heard-write heard-name heard-mask heard-kept heard-left 0 (insertOf 0 j) (now-heard .exe)))
+          let same = backward-only (viewBoard heard-after) ind (viewEntry (b .m) now-heard)
+          (exe-view (b .m) now-heard ∙ e) own-stays in
+          rw (← heard-is) (rw same at (frames-after ind l now-heard heard-write heard-kept heard-left 0 (insertOf 0 j) (now-heard .exe)))
         where
-          own-stays : viewBoard (moved ind l now-heard heard-write heard-name heard-mask heard-kept heard-left 0 (insertOf 0 j) (now-heard .exe)) .own ≡ viewBoard b .own
+          own-stays : viewBoard heard-after .own ≡ viewBoard b .own
           own-stays = unfold viewBoard boardAfter in refl
       heard-frames false e = nothing-sent
 
@@ -522,14 +508,14 @@ module _ (b : Board) (held : Held b) (ready : T (b .started)) (lo : 1 ≤ b .m) 
       heard-lifts =
           taking ind (record { answer = 0; entry = now-heard; fresh = false; len = b .len; shards = insertOf 0 j; ack = 0; sends = now-heard .exe }) _ refl
           (record {
-            columns = columns ind l now-heard heard-write heard-name heard-mask heard-kept heard-left 0 (insertOf 0 j) (now-heard .exe);
+            columns = columns ind l now-heard heard-write heard-kept heard-left 0 (insertOf 0 j) (now-heard .exe);
             answer = refl;
             state = heard-board;
             frames = rw status (heard-frames (now-heard .exe) refl);
           })
         where
           status : isEXE (heardFrom j (readsOf k rs) (viewEntry (b .m) was) .status) ≡ now-heard .exe
-          status = ap (λ (e : B.Entry). isEXE (e .status)) (sym heard-is) ∙ shown-exe (b .m) now-heard
+          status = ap (λ (e : B.Entry). isEXE (e .status)) (sym heard-is) ∙ exe-view (b .m) now-heard
 
   notif-there : (j ind k : ℕ) (rs : List Item) (low : 1 ≤ j) (high : j ≤ 8) (carried : Carried k rs) (l : ind < b .len)
       → inMask (entryAt (b .log) ind .remaining) j ≡ has j (viewEntry (b .m) (entryAt (b .log) ind) .remaining)
@@ -603,14 +589,6 @@ module _ (b : Board) (held : Held b) (ready : T (b .started)) (lo : 1 ≤ b .m) 
       unfolding finishedOf writeOf
       ended-write = refl
 
-      ended-name : nameIn ended ≡ nameIn pre
-      unfolding finishedOf
-      ended-name = refl
-
-      ended-mask : maskIn (b .m) ended ≡ maskIn (b .m) pre
-      unfolding finishedOf
-      ended-mask = refl
-
       none-left : (i : ℕ) → T (has i (setOf (ended .remaining))) → T (touches (b .m) i (operationsOf (ended .count) (ended .items)))
       unfolding finishedOf setOf inMask if_then_else_
       none-left i t = absurd t
@@ -619,12 +597,12 @@ module _ (b : Board) (held : Held b) (ready : T (b .started)) (lo : 1 ≤ b .m) 
       shards = touchedOf (b .m) (pre .count) (pre .items)
 
       abbrev ended-board : Board
-      ended-board = moved ind l ended ended-write ended-name ended-mask ended-kept none-left 0 shards true
+      ended-board = moved ind l ended ended-write ended-kept none-left 0 shards true
 
       ended-view : viewBoard ended-board ≡ settle ind (finished (readsOf k rs) (viewEntry (b .m) pre)) (touched (viewBoard b .m) (viewEntry (b .m) pre .write .operations)) (viewBoard b)
       unfolding settle
       ended-view =
-          sym (after ind l ended ended-write ended-name ended-mask ended-kept none-left 0 shards true)
+          sym (after ind l ended ended-write ended-kept none-left 0 shards true)
           ∙ (λ i. holding (set (viewBoard b .log) ind (ended-is i)) (floor-still (viewBoard b .floor) (ended .client) i) (onQueues (set-is i) (takeUpTo ind) (viewBoard b .queue)) (viewBoard b))
         where
           set-is : setOf shards ≡ touched (viewBoard b .m) (viewEntry (b .m) pre .write .operations)
@@ -633,8 +611,8 @@ module _ (b : Board) (held : Held b) (ready : T (b .started)) (lo : 1 ≤ b .m) 
       ended-frames : Sends (framesOf true ended (b .n) (b .m) (b .own) (ended-board .floor) ind (ended-board .touched) room)
           (backward (viewBoard b) ind (finished (readsOf k rs) (viewEntry (b .m) pre)) ∷ [])
       ended-frames =
-          let same = backward-only (viewBoard ended-board) ind (viewEntry (b .m) ended) (shown-exe (b .m) ended ∙ is-exe) own-stays in
-          rw (← ended-is) (rw same at (frames-after ind l ended ended-write ended-name ended-mask ended-kept none-left 0 shards true))
+          let same = backward-only (viewBoard ended-board) ind (viewEntry (b .m) ended) (exe-view (b .m) ended ∙ is-exe) own-stays in
+          rw (← ended-is) (rw same at (frames-after ind l ended ended-write ended-kept none-left 0 shards true))
         where
           own-stays : viewBoard ended-board .own ≡ viewBoard b .own
           own-stays = unfold viewBoard boardAfter in refl
@@ -649,7 +627,7 @@ module _ (b : Board) (held : Held b) (ready : T (b .started)) (lo : 1 ≤ b .m) 
       ended-lifts =
           taking ind (record { answer = 0; entry = ended; fresh = false; len = b .len; shards = shards; ack = 0; sends = true }) _ refl
           (record {
-            columns = columns ind l ended ended-write ended-name ended-mask ended-kept none-left 0 shards true;
+            columns = columns ind l ended ended-write ended-kept none-left 0 shards true;
             answer = refl;
             state = ended-view;
             frames = ended-frames;
@@ -677,7 +655,7 @@ module _ (b : Board) (held : Held b) (ready : T (b .started)) (lo : 1 ≤ b .m) 
   unfolding judgeExecuted
   executed-means ind k rs carried =
       in-log ind _ (executedStep (viewBoard b) ind (readsOf k rs)) (unfold executedStep in refl)
-      (λ l. executed-there ind k rs carried l (sym (shown-exe (b .m) (entryAt (b .log) ind))) (all-fit l))
+      (λ l. executed-there ind k rs carried l (sym (exe-view (b .m) (entryAt (b .log) ind))) (all-fit l))
     where
       all-fit : (l : ind < b .len) → fitsOf (entryAt (b .log) ind .count) (entryAt (b .log) ind .items) k rs
           ≡ B.fits (readsOf k rs) (placed 0 (operationsOf (entryAt (b .log) ind .count) (entryAt (b .log) ind .items)))

@@ -12,29 +12,18 @@ use lib.Seq.{drop-cons, take-suc, set-at, getD-append-add, getD-drop, getD-take,
 use lib.Dec.{eqb}
 use borrow.Author.Tests.{eq-eqb, ne-eqb}
 use Rattle.rules.specs.Lists.{if_then_else_}
+use Rattle.rules.proofs.Lists.{by}
+use Rattle.frames.proofs.Lists.{front-cons, front-end}
 use Rattle.entry.specs.Model.{inMask}
 use Rattle.queue.specs.declared.Queue.{Queue}
 use Rattle.queue.specs.Model.{slotsOf, waiting, upTo, changeFrom}
 
 -- ---- Reading the first n of an array
 
-module _ {A : Type 0} (n : ℕ) (l : List A) (i : ℕ) where
-  front-cons : (d : A) → i < n → i < length l → drop i (take n l) ≡ getD l i d ∷ drop (i + 1) (take n l)
-  front-cons d h k =
-      let m : i < length (take n l) = simp length-take (omega arith) in
-      rw (add-one, drop-cons (take n l) i d m, getD-take n l i d h)
-
-  front-end : n ≤ i → drop i (take n l) ≡ []
-  front-end h = drop-of-length-le (take n l) {i = i} (simp length-take (omega arith))
-
-up-to-few : (ind : ℕ) (xs : List ℕ) → upTo ind xs ≤ length xs
+pub up-to-few : (ind : ℕ) (xs : List ℕ) → upTo ind xs ≤ length xs
 unfolding upTo
 up-to-few ind [] = omega arith
-up-to-few ind (x ∷ xs) = go (eqb x ind) (up-to-few ind xs)
-  where
-    go : (t : Bool) → upTo ind xs ≤ length xs → (if t then 1 else suc (upTo ind xs)) ≤ suc (length xs)
-    go true h = unfold if_then_else_ in omega arith
-    go false h = unfold if_then_else_ in omega arith
+up-to-few ind (x ∷ xs) = let h = up-to-few ind xs in by (λ (k : ℕ). k ≤ suc (length xs)) (eqb x ind) (λ t. omega arith) (λ t. omega arith)
 
 pub taken-few : (q : Queue) (ind count : ℕ) → count ≡ upTo ind (waiting q) → count ≤ q .len
 taken-few q ind count e = omega (arith, up-to-few ind (waiting q), length-take (q .len) (q .numbers))
@@ -86,9 +75,6 @@ module _ (n count : ℕ) (l : List ℕ) where
   rest-length : n ≤ length l → length rest ≡ n - count
   rest-length h = length-drop count (take n l) ∙ rw (length-take-le n l h)
 
-  pub move-none : replicate 256 0 ≡ moved 0
-  move-none = refl
-
   pub move-step : (i : ℕ) (cur : List ℕ) → n ≤ length l → n ≤ 256 → i < n - count → cur ≡ moved i → set cur i (getD l (i + count) 0) ≡ moved (i + 1)
   move-step i cur h k b e =
       let r = rest-length h in
@@ -113,7 +99,7 @@ module _ (change : Queue → Queue) (mask : ℕ) where
   change-length shard [] = refl
   change-length shard (q ∷ qs) = ap suc (change-length (suc shard) qs)
 
-  change-at : (shard : ℕ) (qs : List Queue) (i : ℕ) (d : Queue) → i < length qs
+  pub change-at : (shard : ℕ) (qs : List Queue) (i : ℕ) (d : Queue) → i < length qs
       → getD (changeFrom change mask shard qs) i d ≡ (if inMask mask (shard + i) then change (getD qs i d) else getD qs i d)
   change-at shard [] i d h = absurd (omega arith)
   change-at shard (q ∷ qs) zero d h = rw add-zero

@@ -20,8 +20,9 @@ use Rattle.entry.specs.Model.{inMask}
 use Rattle.entry.specs.View.{setOf}
 use Rattle.entry.proofs.Sets.{iff, in-set}
 use Rattle.queue.specs.declared.Queue.{Queue}
-use Rattle.queue.specs.Model.{slotsOf, waiting, pushedOf, upTo, lastOf, leftOf, without, takenOf, changeFrom, pushedAll, takenAll}
+use Rattle.queue.specs.Model.{slotsOf, waiting, pushedOf, upTo, lastOf, leftOf, without, takenOf, changeFrom, changedAll}
 use Rattle.queue.specs.View.{viewLast, viewQueue, blankQueue, viewQueues, QueueHeld, QueuesHeld}
+use Rattle.queue.proofs.Loops.{up-to-few, change-length, change-at}
 
 -- ---- Pushed
 
@@ -39,11 +40,6 @@ push-held q ind most h =
     (λ t. record { slots = h .slots; few = let f = h .few in omega arith })
 
 -- ---- Taken
-
-upTo-most : (ind : ℕ) (xs : List ℕ) → upTo ind xs ≤ length xs
-unfolding upTo
-upTo-most ind [] = omega arith
-upTo-most ind (x ∷ xs) = let h = upTo-most ind xs in by (λ (k : ℕ). k ≤ suc (length xs)) (eqb x ind) (λ t. omega arith) (λ t. omega arith)
 
 -- the last of the first count, or the former one
 abbrev lastIn : List ℕ → ℕ → Option ℕ → Option ℕ
@@ -103,7 +99,7 @@ pub take-view : (q : Queue) (ind : ℕ) → length (q .numbers) ≡ 256 → q .l
 unfolding takenOf takeUpTo viewQueue
 take-view q ind n h =
     let l = waiting-length q n h in
-    let c = upTo-most ind (waiting q) in
+    let c = up-to-few ind (waiting q) in
     let w = without-view q (upTo ind (waiting q)) n h (omega arith) ∙ sym (take-from (waiting q) (viewLast (q .taken)) ind) in
     rw (T-true (leb (q .len) 256) (le→leb (q .len) 256 h)) (go (leb (q .taken) ind) (below (viewLast (q .taken)) ind) (sym (below-view (q .taken) ind)) w)
   where
@@ -129,16 +125,6 @@ take-held q ind most m h =
 
 -- ---- The queues of a set of shards
 
-change-at : (change : Queue → Queue) (mask shard i : ℕ) (qs : List Queue) → i < length qs
-    → getD (changeFrom change mask shard qs) i blankQueue ≡ (if inMask mask (shard + i) then change (getD qs i blankQueue) else getD qs i blankQueue)
-change-at change mask shard i [] h = absurd (omega arith)
-change-at change mask shard zero (q ∷ qs) h = let e : shard + 0 ≡ shard = omega arith in rw e refl
-change-at change mask shard (suc i) (q ∷ qs) h = let e : shard + suc i ≡ suc shard + i = omega arith in rw e (change-at change mask (suc shard) i qs (omega arith))
-
-change-length : (change : Queue → Queue) (mask shard : ℕ) (qs : List Queue) → length (changeFrom change mask shard qs) ≡ length qs
-change-length change mask shard [] = refl
-change-length change mask shard (q ∷ qs) = ap suc (change-length change mask (suc shard) qs)
-
 module _ (change : Queue → Queue) (means : Q.Queue → Q.Queue) (mask : ℕ) (qs : List Queue) (eight : length qs ≡ 8)
     (view : (i : ℕ) → i < 8 → viewQueue (change (getD qs i blankQueue)) ≡ means (viewQueue (getD qs i blankQueue))) where
   pub changed-view : viewQueues (changeFrom change mask 1 qs) ≡ onQueues (setOf mask) means (viewQueues qs)
@@ -159,7 +145,7 @@ module _ (change : Queue → Queue) (means : Q.Queue → Q.Queue) (mask : ℕ) (
           let lo = leb→le 1 j (and-l (leb 1 j) (leb j 8) w) in
           let hi = leb→le j 8 (and-r (leb 1 j) (leb j 8) w) in
           let s : 1 + (j - 1) ≡ j = omega arith in
-          let c = change-at change mask 1 (j - 1) qs (omega arith) in
+          let c = change-at change mask 1 qs (j - 1) blankQueue (omega arith) in
           let v = view (j - 1) (omega arith) in
           rw c (rw (s, e) (go t v))
         where
@@ -180,14 +166,14 @@ module _ (change : Queue → Queue) (means : Q.Queue → Q.Queue) (mask : ℕ) (
           go true e = unfold if_then_else_ in (inside j (rw e tt) (inMask mask j) refl)
           go false e = rw (outside j (rw e tt)) (unfold if_then_else_ in refl)
 
-pub pushed-view : (qs : List Queue) (mask ind most : ℕ) → QueuesHeld most qs → most < 256 → viewQueues (pushedAll qs mask ind) ≡ onQueues (setOf mask) (enqueue ind) (viewQueues qs)
-unfolding pushedAll
+pub pushed-view : (qs : List Queue) (mask ind most : ℕ) → QueuesHeld most qs → most < 256 → viewQueues (changedAll qs true mask ind) ≡ onQueues (setOf mask) (enqueue ind) (viewQueues qs)
+unfolding changedAll if_then_else_
 pushed-view qs mask ind most h m =
     changed-view (λ q. pushedOf q ind) (enqueue ind) mask qs (h .eight)
     (λ i l. let k = h .each i l in push-view (getD qs i blankQueue) ind (k .slots) (let f = k .few in omega arith))
 
-pub taken-view : (qs : List Queue) (mask ind most : ℕ) → QueuesHeld most qs → most ≤ 256 → viewQueues (takenAll qs mask ind) ≡ onQueues (setOf mask) (takeUpTo ind) (viewQueues qs)
-unfolding takenAll
+pub taken-view : (qs : List Queue) (mask ind most : ℕ) → QueuesHeld most qs → most ≤ 256 → viewQueues (changedAll qs false mask ind) ≡ onQueues (setOf mask) (takeUpTo ind) (viewQueues qs)
+unfolding changedAll if_then_else_
 taken-view qs mask ind most h m =
     changed-view (λ q. takenOf q ind) (takeUpTo ind) mask qs (h .eight)
     (λ i l. let k = h .each i l in take-view (getD qs i blankQueue) ind (k .slots) (let f = k .few in omega arith))
@@ -199,15 +185,15 @@ change-held : (change : Queue → Queue) (mask most more : ℕ) (qs : List Queue
 change-held change mask most more qs h m f =
     record {
       eight = change-length change mask 1 qs ∙ h .eight;
-      each = λ i l. rw (change-at change mask 1 i qs (let e = h .eight in omega arith))
+      each = λ i l. rw (change-at change mask 1 qs i blankQueue (let e = h .eight in omega arith))
           (by (QueueHeld more) (inMask mask (1 + i)) (λ t. f (getD qs i blankQueue) (h .each i l))
           (λ t. let k = h .each i l in record { slots = k .slots; few = let g = k .few in omega arith }));
     }
 
-pub pushed-held : (qs : List Queue) (mask ind most : ℕ) → QueuesHeld most qs → QueuesHeld (suc most) (pushedAll qs mask ind)
-unfolding pushedAll
+pub pushed-held : (qs : List Queue) (mask ind most : ℕ) → QueuesHeld most qs → QueuesHeld (suc most) (changedAll qs true mask ind)
+unfolding changedAll if_then_else_
 pushed-held qs mask ind most h = change-held (λ q. pushedOf q ind) mask most (suc most) qs h (omega arith) (λ q k. push-held q ind most k)
 
-pub taken-held : (qs : List Queue) (mask ind most : ℕ) → most ≤ 256 → QueuesHeld most qs → QueuesHeld most (takenAll qs mask ind)
-unfolding takenAll
+pub taken-held : (qs : List Queue) (mask ind most : ℕ) → most ≤ 256 → QueuesHeld most qs → QueuesHeld most (changedAll qs false mask ind)
+unfolding changedAll if_then_else_
 taken-held qs mask ind most m h = change-held (λ q. takenOf q ind) mask most most qs h (omega arith) (λ q k. take-held q ind most m k)

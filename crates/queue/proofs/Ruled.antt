@@ -1,21 +1,20 @@
 -- Wrong answers that the promises of this crate rule out, beside those that the laws in Meaning do: each is shown of the definition that the
 -- contract cites.
 -- Assumes nothing.
-use mathlib.Core.Path.{_≡_, refl, ap}
+use mathlib.Core.Path.{_≡_, refl}
 use mathlib.Core.Bool.{Bool, false}
 use mathlib.Core.List.{List, [], _∷_}
-use mathlib.Core.Option.{none}
 use Prim.Native.Nat.{ℕ, zero, suc, _+_, _≤_, _<_}
 use native.Mathlib.Omega.{arith}
 use lib.Dec.{ltb}
-use lib.ListN.{getD, replicate, getD-replicate}
+use lib.ListN.{getD, getD-replicate}
 use borrow.Author.Tests.{le-ltb}
 use Rattle.rules.specs.Lists.{if_then_else_}
 use Rattle.rules.specs.Queue.{emptyQueue}
 use Rattle.rules.proofs.Lists.{by}
 use Rattle.entry.specs.Model.{inMask}
 use Rattle.queue.specs.declared.Queue.{Queue}
-use Rattle.queue.specs.Model.{noQueue, pushedOf, takenOf, changeFrom, pushedAll, takenAll}
+use Rattle.queue.specs.Model.{noQueue, pushedOf, changeFrom, changedOf, changedAll}
 use Rattle.queue.specs.View.{viewQueue}
 
 -- ---- no_queue
@@ -41,7 +40,7 @@ pub push-full : (q : Queue) (ind : ℕ) → 256 ≤ q .len → pushedOf q ind �
 unfolding pushedOf if_then_else_
 push-full q ind h = rw (le-ltb (q .len) 256 h)
 
--- ---- pushed_all, taken_all: the queue of a shard outside the set changed
+-- ---- changed_all: the queue of a shard outside the set changed
 
 outside : (change : Queue → Queue) (mask shard : ℕ) (qs : List Queue) (i : ℕ) (z : Queue) → inMask mask (shard + i) ≡ false
     → getD (changeFrom change mask shard qs) i z ≡ getD qs i z
@@ -55,10 +54,6 @@ outside change mask shard (q ∷ qs) (suc i) z h =
     let e : shard + suc i ≡ suc shard + i = omega arith in
     outside change mask (suc shard) qs i z (rw e at h)
 
-pub pushed-outside : (qs : List Queue) (mask ind i : ℕ) (z : Queue) → inMask mask (1 + i) ≡ false → getD (pushedAll qs mask ind) i z ≡ getD qs i z
-unfolding pushedAll
-pushed-outside qs mask ind i z h = outside (λ q. pushedOf q ind) mask 1 qs i z h
-
-pub taken-outside : (qs : List Queue) (mask ind i : ℕ) (z : Queue) → inMask mask (1 + i) ≡ false → getD (takenAll qs mask ind) i z ≡ getD qs i z
-unfolding takenAll
-taken-outside qs mask ind i z h = outside (λ q. takenOf q ind) mask 1 qs i z h
+pub changed-outside : (qs : List Queue) (fresh : Bool) (mask ind i : ℕ) (z : Queue) → inMask mask (1 + i) ≡ false → getD (changedAll qs fresh mask ind) i z ≡ getD qs i z
+unfolding changedAll
+changed-outside qs fresh mask ind i z h = outside (changedOf fresh ind) mask 1 qs i z h

@@ -1,7 +1,7 @@
 -- What each function of the crate gives, on the records as they lie: every field and every element is determined, for
 -- every input. What it means in the rules' words is in View.
 -- Assumes nothing.
-use mathlib.Core.Bool.{_&&_}
+use mathlib.Core.Bool.{Bool, _&&_}
 use mathlib.Core.List.{List, [], _∷_, _++_}
 use Prim.Native.Nat.{ℕ, suc, _+_, _-_}
 use lib.ListN.{length, getD, set, take, drop, replicate}
@@ -44,6 +44,10 @@ without q count = record { numbers = leftOf q count; len = q .len - count; taken
 unfoldable pub takenOf : Queue → ℕ → Queue
 takenOf q ind = if q .len ≤? 256 && q .taken ≤? ind then without q (upTo ind (waiting q)) else q
 
+-- a fresh entry's number is pushed, that of an entry held before is taken up to
+abbrev pub changedOf : Bool → ℕ → Queue → Queue
+changedOf fresh ind q = if fresh then pushedOf q ind else takenOf q ind
+
 -- ---- The queues of the shards, the first that of shard 1
 
 -- those of a set of shards changed
@@ -51,8 +55,5 @@ abbrev pub changeFrom : (Queue → Queue) → ℕ → ℕ → List Queue → Lis
 changeFrom change mask shard [] = []
 changeFrom change mask shard (q ∷ qs) = (if inMask mask shard then change q else q) ∷ changeFrom change mask (suc shard) qs
 
-unfoldable pub pushedAll : List Queue → ℕ → ℕ → List Queue
-pushedAll qs mask ind = changeFrom (λ q. pushedOf q ind) mask 1 qs
-
-unfoldable pub takenAll : List Queue → ℕ → ℕ → List Queue
-takenAll qs mask ind = changeFrom (λ q. takenOf q ind) mask 1 qs
+unfoldable pub changedAll : List Queue → Bool → ℕ → ℕ → List Queue
+changedAll qs fresh mask ind = changeFrom (changedOf fresh ind) mask 1 qs

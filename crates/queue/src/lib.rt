@@ -2,7 +2,7 @@
 // What each function means in the rules' words stands in specs/View.antt and is proved in proofs/Meaning.antt.
 ghost use mathlib.Core.Path.{_≡_};
 ghost use Prim.Native.Nat.{_+_, _≤_};
-ghost use Rattle.queue.specs.Model.{noQueue, waiting, pushedOf, upTo, lastOf, leftOf, takenOf, pushedAll, takenAll};
+ghost use Rattle.queue.specs.Model.{noQueue, waiting, pushedOf, upTo, lastOf, leftOf, takenOf, changedOf, changedAll};
 use frames::LogNumber;
 
 // "a first-in first-out queue of at most 256 log numbers, and the last number taken from it": the first len of numbers
@@ -110,29 +110,22 @@ impl Queue {
             taken: self.last_of(count),
         }
     }
-}
 
-// "queue it for each touched shard"
-pub fn pushed_all(queues: [Queue; 8], mask: u8, log_number: LogNumber) -> [Queue; 8]
-    ensures { λ r. ⌜ r ≡ pushedAll queues mask «log_number» ⌝ }
-{
-    let mut qs = queues;
-    let mut shard: u8 = 1;
-    while shard <= 8 {
-        let at = (shard - 1) as usize;
-        if entry::in_mask(mask, shard) {
-            let q = qs[at];
-            let p = q.pushed(log_number);
-            qs[at] = p;
+    // A fresh entry's number is pushed, that of an entry held before is taken up to.
+    fn changed(self, fresh: bool, log_number: LogNumber) -> Self
+        ensures { λ r. ⌜ r ≡ changedOf fresh «log_number» self ⌝ }
+    {
+        if fresh {
+            self.pushed(log_number)
+        } else {
+            self.taken_up_to(log_number)
         }
-        shard += 1;
     }
-    qs
 }
 
-// "Take up to the log number on each touched shard's queue"
-pub fn taken_all(queues: [Queue; 8], mask: u8, log_number: LogNumber) -> [Queue; 8]
-    ensures { λ r. ⌜ r ≡ takenAll queues mask «log_number» ⌝ }
+// "queue it for each touched shard"; "Take up to the log number on each touched shard's queue"
+pub fn changed_all(queues: [Queue; 8], fresh: bool, mask: u8, log_number: LogNumber) -> [Queue; 8]
+    ensures { λ r. ⌜ r ≡ changedAll queues fresh mask «log_number» ⌝ }
 {
     let mut qs = queues;
     let mut shard: u8 = 1;
@@ -140,7 +133,7 @@ pub fn taken_all(queues: [Queue; 8], mask: u8, log_number: LogNumber) -> [Queue;
         let at = (shard - 1) as usize;
         if entry::in_mask(mask, shard) {
             let q = qs[at];
-            let p = q.taken_up_to(log_number);
+            let p = q.changed(fresh, log_number);
             qs[at] = p;
         }
         shard += 1;

@@ -1,4 +1,4 @@
--- `board::queues_after` meets its contract: the ways out go by the shards and by what the entry is. Assumes nothing.
+-- `board::queues_after` meets its contract: where there is a shard, its queue is changed. Assumes nothing.
 use Rattle.rules.specs.Lists.{if_then_else_}
 use Rattle.board.specs.Model.{queuesAfter}
 use borrow.Author.Needs.{needs}
@@ -11,11 +11,7 @@ returns c = simp (← c .before .is-empty .ensures, c .if1 .taken)
 
 returns-2 : tie.Need-returns-2
 unfolding queuesAfter if_then_else_
-returns-2 c = simp (← c .before .before .before .is-empty .ensures, c .before .before .if1 .left, c .before .if2 .taken, c .pushed-all .ensures)
-
-returns-3 : tie.Need-returns-3
-unfolding queuesAfter if_then_else_
-returns-3 c = simp (← c .before .before .before .is-empty .ensures, c .before .before .if1 .left, c .before .if2 .left, c .taken-all .ensures)
+returns-2 c = simp (← c .before .before .is-empty .ensures, c .before .if1 .left, c .changed-all .ensures)
 
 pub queues-after-spec : {M : Type 1} → statement M
-queues-after-spec = tie.close (tie.spec (λ c κs. search needs) returns (λ c κs. search needs) (λ c κs. search needs) returns-2 returns-3)
+queues-after-spec = tie.close (tie.spec (λ c κs. search needs) returns (λ c κs. search needs) returns-2)

@@ -1,4 +1,4 @@
--- `pushed_all` meets its contract. The loop has changed the queues of the shards below `shard`.
+-- `changed_all` meets its contract. The loop has changed the queues of the shards below `shard`.
 -- Assumes nothing.
 use mathlib.Core.Path.{_≡_, _∙_, refl, ap}
 use mathlib.Core.List.{_++_}
@@ -6,26 +6,26 @@ use mathlib.Core.Logic.{⊎-elim}
 use native.Mathlib.Omega.{arith}
 use Prim.Native.Nat.{_≤_, _<_, _-_}
 use lib.ListN.{length, take, drop}
-use Rattle.queue.specs.Model.{noQueue, changeFrom, pushedOf, pushedAll}
+use Rattle.queue.specs.Model.{noQueue, changeFrom, changedOf, changedAll}
 use Rattle.queue.proofs.Loops.{change-yes, change-no, change-all}
 use lib.ListN.{length-set}
 use Rattle.queue.specs.declared.Queue.{Queue}
 use borrow.Author.Needs.{needs}
-use Rattle.queue.proofs.pushed_all.Statement.{statement}
-use Rattle.queue.proofs.pushed_all.Tie as tie
+use Rattle.queue.proofs.changed_all.Statement.{statement}
+use Rattle.queue.proofs.changed_all.Tie as tie
 
 abbrev Inv-loop : tie.InvT-loop
-Inv-loop mask log-number qs₀ shard₀ qs shard = (1 ≤ shard) × (shard ≤ 9) × (length qs₀ ≡ 8) × (length qs ≡ 8) × (qs ≡ take (shard - 1) (changeFrom (λ q. pushedOf q log-number) mask 1 qs₀) ++ drop (shard - 1) qs₀)
+Inv-loop fresh mask log-number qs₀ shard₀ qs shard = (1 ≤ shard) × (shard ≤ 9) × (length qs₀ ≡ 8) × (length qs ≡ 8) × (qs ≡ take (shard - 1) (changeFrom (changedOf fresh log-number) mask 1 qs₀) ++ drop (shard - 1) qs₀)
 
 abbrev μ-loop : tie.MeasureT-loop
-μ-loop mask log-number qs₀ shard₀ qs shard = 9 - shard
+μ-loop fresh mask log-number qs₀ shard₀ qs shard = 9 - shard
 
 loop-holds : tie.Need-loop-holds Inv-loop μ-loop
 loop-holds c = (search needs, search needs, search needs, search needs, refl)
 
 loop-again : tie.Need-loop-again Inv-loop μ-loop
 loop-again c = let a = c .before .before .before .before .args in let l = c .before .before .before .loop in
-    let change : Queue → Queue = λ q. pushedOf q (a .log-number) in
+    let change : Queue → Queue = changedOf (a .fresh) (a .log-number) in
     let small : l .shard - 1 < length (a .queues) = omega (arith, l .inv .2, c .before .before .loop-test .taken) in (
       search needs,
       search needs,
@@ -38,10 +38,10 @@ loop-again c = let a = c .before .before .before .before .args in let l = c .bef
     )
 
 returns : tie.Need-returns Inv-loop μ-loop
-unfolding pushedAll
+unfolding changedAll
 returns c = let a = c .before .before .args in let l = c .before .loop in
     let done : l .shard - 1 ≡ 8 = omega (arith, c .loop-test .left) in
-    l .inv .4 ∙ (rw done (change-all (λ q. pushedOf q (a .log-number)) (a .mask) (a .queues) 8 (omega (arith, l .inv .2))))
+    l .inv .4 ∙ (rw done (change-all (changedOf (a .fresh) (a .log-number)) (a .mask) (a .queues) 8 (omega (arith, l .inv .2))))
 
-pub pushed-all-spec : {M : Type 1} → statement M
-pushed-all-spec = tie.close (tie.spec Inv-loop μ-loop loop-holds (λ c. search needs) (λ c. search needs) (λ c κs. search needs) (λ c. search needs) (λ c. search needs) (λ c κs. search needs) (λ c. search needs) (λ c. search needs) (λ c. search needs) (λ c. search needs) loop-again returns)
+pub changed-all-spec : {M : Type 1} → statement M
+changed-all-spec = tie.close (tie.spec Inv-loop μ-loop loop-holds (λ c. search needs) (λ c. search needs) (λ c κs. search needs) (λ c. search needs) (λ c. search needs) (λ c κs. search needs) (λ c. search needs) (λ c. search needs) (λ c. search needs) (λ c. search needs) loop-again returns)
