@@ -89,6 +89,17 @@ kept-at-first r first input l =
     let e : length input - (first - first) ≡ length input = omega arith in
     record { counted = omega arith; fewer = omega arith; inside = omega arith; grown = ungrown l; ahead = rw e }
 
+-- a record was found: it lies in the input, and there is room for its line
+pub record Ready {r₀ : Register} {first : ℕ} {input l₀ : List ℕ} {r : Register} {index taken : ℕ} {l : List ℕ} {written : ℕ}
+    (k : Kept r₀ first input l₀ r index taken l written) : Type 0 where
+  pub address : ℕ
+  pub end : ℕ
+  pub is : nextOf (drop taken input) ≡ Record address end
+  pub long : 3 ≤ end
+  pub within : taken + end ≤ length input
+  pub low : index < last
+  pub room : written + 128 ≤ length l₀
+
 module _ {r₀ : Register} {first : ℕ} {input l₀ : List ℕ} {r : Register} {index taken : ℕ} {l : List ℕ} {written : ℕ} (k : Kept r₀ first input l₀ r index taken l written) where
   pub has : length (take written l) ≡ written
   has = length-take-le written l (omega (arith, k .grown .within, k .grown .as-long))
@@ -97,30 +108,27 @@ module _ {r₀ : Register} {first : ℕ} {input l₀ : List ℕ} {r : Register} 
   abbrev sofar : Run
   sofar = record { register = r; index = index; taken = taken; text = take written l }
 
-  -- one record more
+  -- one record more, whoever takes it
   pub kept-on :
-      (address end : ℕ) (t : Turn) (l′ : List ℕ) (written′ : ℕ) → index < last → written + 128 ≤ length l₀ → nextOf (drop taken input) ≡ Record address end →
-      turnOf r address (frameAt input taken end) ≡ t →
+      (g : Ready k) (t : Turn) (l′ : List ℕ) (written′ : ℕ) → turnOf r (g .address) (frameAt input taken (g .end)) ≡ t →
       written′ ≡ written + length (dLine index (t .answer) (t .frames)) →
       l′ ≡ lined l written (dLine index (t .answer) (t .frames)) →
-      Kept r₀ first input l₀ (t .register) (index + 1) (taken + end) l′ written′
-  kept-on address end t l′ written′ low room next turned w a =
-      let b = record-inside (drop taken input) address end next in
-      let d : length (drop taken input) ≡ length input - taken = length-drop taken input in
+      Kept r₀ first input l₀ (t .register) (index + 1) (taken + g .end) l′ written′
+  kept-on g t l′ written′ turned w a =
       let line : List ℕ = dLine index (t .answer) (t .frames) in
       let short : length line ≤ 128 = d-short index (t .answer) (t .frames) in
       let most : ℕ = length input - (index + 1 - first) in
-      let more : length input - (index - first) ≡ suc most = omega (arith, k .counted, k .fewer, k .inside, b .0, b .1) in
+      let more : length input - (index - first) ≡ suc most = omega (arith, k .counted, k .fewer, k .inside, g .long, g .within) in
       record {
         counted = omega (arith, k .counted);
-        fewer = omega (arith, k .fewer, b .0);
-        inside = omega (arith, k .inside, b .1);
-        grown = rw (w, a) (grows l₀ l line written (k .grown) room short);
+        fewer = omega (arith, k .fewer, g .long);
+        inside = g .within;
+        grown = rw (w, a) (grows l₀ l line written (k .grown) (g .room) short);
         ahead =
-            ap (λ (x : List ℕ). runs most input (length l₀) (record { register = t .register; index = index + 1; taken = taken + end; text = x }))
-            (rw (w, a) (more-text l₀ l line written (k .grown) room short))
-            ∙ ap (λ (y : Turn). runs most input (length l₀) (after sofar end y)) (sym turned)
-            ∙ sym (goes-on most input (length l₀) sofar address end low (rw has room) next)
+            ap (λ (x : List ℕ). runs most input (length l₀) (record { register = t .register; index = index + 1; taken = taken + g .end; text = x }))
+            (rw (w, a) (more-text l₀ l line written (k .grown) (g .room) short))
+            ∙ ap (λ (y : Turn). runs most input (length l₀) (after sofar (g .end) y)) (sym turned)
+            ∙ sym (goes-on most input (length l₀) sofar (g .address) (g .end) (g .low) (rw has (g .room)) (g .is))
             ∙ ap (λ (x : ℕ). runs x input (length l₀) sofar) (sym more)
             ∙ k .ahead;
       }
@@ -153,16 +161,8 @@ module _ {r₀ : Register} {first : ℕ} {input l₀ : List ℕ} {r : Register} 
 
 -- what stands at the front of the part of the input that is left
 module _ (input : List ℕ) (taken : ℕ) (next : Next) (inside : taken ≤ length input) (read : next ≡ nextOf (take (length input - taken) (drop taken input))) where
-  left : next ≡ nextOf (drop taken input)
+  pub left : next ≡ nextOf (drop taken input)
   left = read ∙ ap nextOf (take-all (length input - taken) (drop taken input) (rw (length-drop taken input) (omega arith)))
-
-  pub found : (address end : ℕ) → next ≡ Record address end → nextOf (drop taken input) ≡ Record address end
-  found address end e = sym left ∙ e
-
-  pub found-inside : (address end : ℕ) → next ≡ Record address end → (3 ≤ end) × (taken + end ≤ length input)
-  found-inside address end e =
-      let b = record-inside (drop taken input) address end (found address end e) in
-      (b .0, omega (arith, b .1, length-drop taken input))
 
   pub none-left : OneOf (1 ∷ 2 ∷ []) (tagOf the-type next) → Ended (nextOf (drop taken input))
   none-left o = rw left at (ended next o)
@@ -171,3 +171,20 @@ module _ (input : List ℕ) (taken : ℕ) (next : Next) (inside : taken ≤ leng
       ended (Record address end) p = ⊎-elim (λ q. absurd (omega arith)) (λ q. absurd (omega arith)) p
       ended Need p = tt
       ended Cut p = tt
+
+module _ {r₀ : Register} {first : ℕ} {input l₀ : List ℕ} {r : Register} {index taken : ℕ} {l : List ℕ} {written : ℕ} (k : Kept r₀ first input l₀ r index taken l written) where
+  abbrev pub ready :
+      (next : Next) → next ≡ nextOf (take (length input - taken) (drop taken input)) → (address end : ℕ) → next ≡ Record address end →
+      index < last → 128 ≤ length l - written → Ready k
+  ready next read address end e low space =
+      let is : nextOf (drop taken input) ≡ Record address end = sym (left input taken next (k .inside) read) ∙ e in
+      let b = record-inside (drop taken input) address end is in
+      record {
+        address = address;
+        end = end;
+        is = is;
+        long = b .0;
+        within = omega (arith, b .1, length-drop taken input, k .inside);
+        low = low;
+        room = omega (arith, k .grown .within, k .grown .as-long);
+      }

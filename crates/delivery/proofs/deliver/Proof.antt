@@ -1,12 +1,12 @@
 -- Before each turn `deliver` has delivered some records of the input, and the run that is ahead is the whole run: each turn is one record more.
 -- Assumes nothing.
 use mathlib.Core.Path.{_≡_, sym, _∙_}
-use Prim.Native.Nat.{_-_}
+use Prim.Native.Nat.{_-_, _<_}
 use native.Mathlib.Omega.{arith}
 use lib.ListN.{length, length-set}
 use Rattle.delivery.proofs.Eight.{eight-boards, eight-shards}
 use Rattle.delivery.proofs.Turns.{board-within, shard-within, nobody-turned, board-taken, board-refused, shard-taken, shard-refused}
-use Rattle.delivery.proofs.Runs.{Kept, kept-at-first, kept-on, stopped-index, stopped-room, stopped-ended, found, found-inside, none-left}
+use Rattle.delivery.proofs.Runs.{Kept, kept-at-first, Ready, ready, kept-on, stopped-index, stopped-room, stopped-ended, none-left}
 use borrow.Author.Needs.{needs}
 use Rattle.delivery.proofs.deliver.Statement.{statement}
 use Rattle.delivery.proofs.deliver.Tie as tie
@@ -32,101 +32,112 @@ part-record-at-start c = omega (arith, c .before .before .loop .inv .0 .inside)
 part-record-at-end : tie.Need-part-record-at-end Inv-loop μ-loop
 part-record-at-end c = omega (arith, c .before .before .loop .inv .0 .inside)
 
+-- where a record was found
+abbrev found-at : (k : tie.After-next Inv-loop μ-loop) → Ready (k .before .before .before .before .before .before .loop .inv .0)
+found-at k = ready (k .before .before .before .before .before .before .loop .inv .0) _ (k .before .before .record-at .ensures) _ _ (k .next .given .1) (k .before .before .before .before .before .loop-test .taken) (k .before .before .before .before .if1 .left)
+
+-- the board or the shard group that was named is one of eight
+board-here : (w : tie.After-whom Inv-loop μ-loop) → w .whom .given .0 .0 < 8
+board-here w = board-within _ _ _ _ (sym (w .before .before .named .ensures) ∙ w .whom .given .1)
+
+shard-here : (w : tie.After-whom2 Inv-loop μ-loop) → w .whom2 .given .0 .0 < 8
+shard-here w = shard-within _ _ _ _ (sym (w .before .before .named .ensures) ∙ w .whom2 .given .1)
+
 add-from : tie.Need-add-from Inv-loop μ-loop
-add-from c = omega (arith, c .before .before .before .before .before .before .before .loop .inv .0 .inside, (found-inside (c .before .before .before .before .before .before .before .before .before .before .before .before .args .input .now) (c .before .before .before .before .before .before .before .loop .taken) _ (c .before .before .before .before .before .before .before .loop .inv .0 .inside) (c .before .before .before .record-at .ensures) _ _ (c .before .next .given .1)) .1)
+add-from c = let g = found-at (c .before) in omega arith
 
 add-taken : tie.Need-add-taken Inv-loop μ-loop
-add-taken c = omega (arith, (found-inside (c .before .before .before .before .before .before .before .before .before .before .before .before .args .input .now) (c .before .before .before .before .before .before .before .loop .taken) _ (c .before .before .before .before .before .before .before .loop .inv .0 .inside) (c .before .before .before .record-at .ensures) _ _ (c .before .next .given .1)) .1)
+add-taken c = let g = found-at (c .before) in omega arith
 
 mul-b : tie.Need-mul-b Inv-loop μ-loop
-mul-b c = omega (arith, board-within _ _ _ _ (sym (c .before .before .before .named .ensures) ∙ c .before .whom .given .1))
+mul-b c = omega (arith, board-here (c .before))
 
 array-copy-out-b : tie.Need-array-copy-out-b Inv-loop μ-loop
-array-copy-out-b c = board-within _ _ _ _ (sym (c .before .before .before .named .ensures) ∙ c .before .whom .given .1)
+array-copy-out-b c = board-here (c .before)
 
 sub-step : tie.Need-sub-step Inv-loop μ-loop
-sub-step c = omega (arith, (found-inside (c .before .before .before .before .before .before .before .before .before .before .before .before .before .before .before .before .before .args .input .now) (c .before .before .before .before .before .before .before .before .before .before .before .before .loop .taken) _ (c .before .before .before .before .before .before .before .before .before .before .before .before .loop .inv .0 .inside) (c .before .before .before .before .before .before .before .before .record-at .ensures) _ _ (c .before .before .before .before .before .before .next .given .1)) .0, (found-inside (c .before .before .before .before .before .before .before .before .before .before .before .before .before .before .before .before .before .args .input .now) (c .before .before .before .before .before .before .before .before .before .before .before .before .loop .taken) _ (c .before .before .before .before .before .before .before .before .before .before .before .before .loop .inv .0 .inside) (c .before .before .before .before .before .before .before .before .record-at .ensures) _ _ (c .before .before .before .before .before .before .next .given .1)) .1)
+sub-step c = let g = found-at (c .before .before .before .before .before .before) in omega arith
 
 part-step-start : tie.Need-part-step-start Inv-loop μ-loop
-part-step-start c = omega (arith, (found-inside (c .before .before .before .before .before .before .before .before .before .before .before .before .before .before .before .before .before .args .input .now) (c .before .before .before .before .before .before .before .before .before .before .before .before .loop .taken) _ (c .before .before .before .before .before .before .before .before .before .before .before .before .loop .inv .0 .inside) (c .before .before .before .before .before .before .before .before .record-at .ensures) _ _ (c .before .before .before .before .before .before .next .given .1)) .0, (found-inside (c .before .before .before .before .before .before .before .before .before .before .before .before .before .before .before .before .before .args .input .now) (c .before .before .before .before .before .before .before .before .before .before .before .before .loop .taken) _ (c .before .before .before .before .before .before .before .before .before .before .before .before .loop .inv .0 .inside) (c .before .before .before .before .before .before .before .before .record-at .ensures) _ _ (c .before .before .before .before .before .before .next .given .1)) .1)
+part-step-start c = let g = found-at (c .before .before .before .before .before .before) in omega arith
 
 part-step-end : tie.Need-part-step-end Inv-loop μ-loop
-part-step-end c = omega (arith, (found-inside (c .before .before .before .before .before .before .before .before .before .before .before .before .before .before .before .before .before .args .input .now) (c .before .before .before .before .before .before .before .before .before .before .before .before .loop .taken) _ (c .before .before .before .before .before .before .before .before .before .before .before .before .loop .inv .0 .inside) (c .before .before .before .before .before .before .before .before .record-at .ensures) _ _ (c .before .before .before .before .before .before .next .given .1)) .0, (found-inside (c .before .before .before .before .before .before .before .before .before .before .before .before .before .before .before .before .before .args .input .now) (c .before .before .before .before .before .before .before .before .before .before .before .before .loop .taken) _ (c .before .before .before .before .before .before .before .before .before .before .before .before .loop .inv .0 .inside) (c .before .before .before .before .before .before .before .before .record-at .ensures) _ _ (c .before .before .before .before .before .before .next .given .1)) .1)
+part-step-end c = let g = found-at (c .before .before .before .before .before .before) in omega arith
 
 line-requires : tie.Need-line-requires Inv-loop μ-loop
-line-requires c κs = omega (arith, c .before .before .before .before .before .before .before .before .before .before .before .before .before .before .before .if1 .left, c .before .before .before .before .before .before .before .before .before .before .before .before .before .before .before .before .before .loop .inv .0 .grown .within, c .before .before .before .before .before .before .before .before .before .before .before .before .before .before .before .before .before .loop .inv .0 .grown .as-long)
+line-requires c κs = let g = found-at (c .before .before .before .before .before .before .before .before .before .before .before) in omega (arith, c .before .before .before .before .before .before .before .before .before .before .before .before .before .before .before .before .before .loop .inv .0 .grown .as-long)
 
 add-index : tie.Need-add-index Inv-loop μ-loop
-add-index c = omega (arith, c .before .before .before .before .before .before .before .before .before .before .before .before .before .before .before .before .before .before .before .loop-test .taken)
+add-index c = let g = found-at (c .before .before .before .before .before .before .before .before .before .before .before .before .before .before) in omega arith
 
 loop-less : tie.Need-loop-less Inv-loop μ-loop
-loop-less c = omega (arith, (found-inside (c .before .before .before .before .before .before .before .before .before .before .before .before .before .before .before .before .before .before .before .before .before .before .before .before .before .before .before .args .input .now) (c .before .before .before .before .before .before .before .before .before .before .before .before .before .before .before .before .before .before .before .before .before .before .loop .taken) _ (c .before .before .before .before .before .before .before .before .before .before .before .before .before .before .before .before .before .before .before .before .before .before .loop .inv .0 .inside) (c .before .before .before .before .before .before .before .before .before .before .before .before .before .before .before .before .before .before .record-at .ensures) _ _ (c .before .before .before .before .before .before .before .before .before .before .before .before .before .before .before .before .next .given .1)) .0, (found-inside (c .before .before .before .before .before .before .before .before .before .before .before .before .before .before .before .before .before .before .before .before .before .before .before .before .before .before .before .args .input .now) (c .before .before .before .before .before .before .before .before .before .before .before .before .before .before .before .before .before .before .before .before .before .before .loop .taken) _ (c .before .before .before .before .before .before .before .before .before .before .before .before .before .before .before .before .before .before .before .before .before .before .loop .inv .0 .inside) (c .before .before .before .before .before .before .before .before .before .before .before .before .before .before .before .before .before .before .record-at .ensures) _ _ (c .before .before .before .before .before .before .before .before .before .before .before .before .before .before .before .before .next .given .1)) .1)
+loop-less c = let g = found-at (c .before .before .before .before .before .before .before .before .before .before .before .before .before .before .before .before) in omega arith
 
 loop-again : tie.Need-loop-again Inv-loop μ-loop
-loop-again c = (kept-on (c .before .before .before .before .before .before .before .before .before .before .before .before .before .before .before .before .before .before .before .before .before .before .loop .inv .0) _ _ _ _ _ (c .before .before .before .before .before .before .before .before .before .before .before .before .before .before .before .before .before .before .before .before .before .loop-test .taken) (omega (arith, c .before .before .before .before .before .before .before .before .before .before .before .before .before .before .before .before .before .before .before .before .if1 .left, c .before .before .before .before .before .before .before .before .before .before .before .before .before .before .before .before .before .before .before .before .before .before .loop .inv .0 .grown .within, c .before .before .before .before .before .before .before .before .before .before .before .before .before .before .before .before .before .before .before .before .before .before .loop .inv .0 .grown .as-long)) (found (c .before .before .before .before .before .before .before .before .before .before .before .before .before .before .before .before .before .before .before .before .before .before .before .before .before .before .before .args .input .now) (c .before .before .before .before .before .before .before .before .before .before .before .before .before .before .before .before .before .before .before .before .before .before .loop .taken) _ (c .before .before .before .before .before .before .before .before .before .before .before .before .before .before .before .before .before .before .before .before .before .before .loop .inv .0 .inside) (c .before .before .before .before .before .before .before .before .before .before .before .before .before .before .before .before .before .before .record-at .ensures) _ _ (c .before .before .before .before .before .before .before .before .before .before .before .before .before .before .before .before .next .given .1)) (board-refused _ _ _ _ (c .before .before .before .before .before .before .before .before .before .before .before .before .before .before .named .ensures) _ _ _ (c .before .before .before .before .before .before .before .before .before .before .before .before .whom .given .1) (omega (arith, board-within _ _ _ _ (sym (c .before .before .before .before .before .before .before .before .before .before .before .before .before .before .named .ensures) ∙ c .before .before .before .before .before .before .before .before .before .before .before .before .whom .given .1), c .before .before .before .before .before .before .before .before .before .before .before .before .before .before .before .before .before .before .before .before .before .before .loop .inv .1)) (c .before .before .before .before .before .before .before .step .ensures .0) (c .if2 .taken)) (c .before .before .before .before .line .ensures .0) (c .before .before .before .before .line .ensures .1), c .before .before .before .before .before .before .before .before .before .before .before .before .before .before .before .before .before .before .before .before .before .before .loop .inv .1, c .before .before .before .before .before .before .before .before .before .before .before .before .before .before .before .before .before .before .before .before .before .before .loop .inv .2)
+loop-again c = (kept-on _ (found-at (c .before .before .before .before .before .before .before .before .before .before .before .before .before .before .before .before)) _ _ _ (board-refused _ _ _ _ (c .before .before .before .before .before .before .before .before .before .before .before .before .before .before .named .ensures) _ _ _ (c .before .before .before .before .before .before .before .before .before .before .before .before .whom .given .1) (omega (arith, board-here (c .before .before .before .before .before .before .before .before .before .before .before .before), c .before .before .before .before .before .before .before .before .before .before .before .before .before .before .before .before .before .before .before .before .before .before .loop .inv .1)) (c .before .before .before .before .before .before .before .step .ensures .0) (c .if2 .taken)) (c .before .before .before .before .line .ensures .0) (c .before .before .before .before .line .ensures .1), c .before .before .before .before .before .before .before .before .before .before .before .before .before .before .before .before .before .before .before .before .before .before .loop .inv .1, c .before .before .before .before .before .before .before .before .before .before .before .before .before .before .before .before .before .before .before .before .before .before .loop .inv .2)
 
 mul-boards : tie.Need-mul-boards Inv-loop μ-loop
-mul-boards c = omega (arith, board-within _ _ _ _ (sym (c .before .before .before .before .before .before .before .before .before .before .before .before .before .before .before .named .ensures) ∙ c .before .before .before .before .before .before .before .before .before .before .before .before .before .whom .given .1))
+mul-boards c = omega (arith, board-here (c .before .before .before .before .before .before .before .before .before .before .before .before .before))
 
 array-set-from-boards : tie.Need-array-set-from-boards Inv-loop μ-loop
-array-set-from-boards c = board-within _ _ _ _ (sym (c .before .before .before .before .before .before .before .before .before .before .before .before .before .before .before .named .ensures) ∙ c .before .before .before .before .before .before .before .before .before .before .before .before .before .whom .given .1)
+array-set-from-boards c = board-here (c .before .before .before .before .before .before .before .before .before .before .before .before .before)
 
 loop-less-2 : tie.Need-loop-less-2 Inv-loop μ-loop
-loop-less-2 c = omega (arith, (found-inside (c .before .before .before .before .before .before .before .before .before .before .before .before .before .before .before .before .before .before .before .before .before .before .before .before .before .before .before .before .args .input .now) (c .before .before .before .before .before .before .before .before .before .before .before .before .before .before .before .before .before .before .before .before .before .before .before .loop .taken) _ (c .before .before .before .before .before .before .before .before .before .before .before .before .before .before .before .before .before .before .before .before .before .before .before .loop .inv .0 .inside) (c .before .before .before .before .before .before .before .before .before .before .before .before .before .before .before .before .before .before .before .record-at .ensures) _ _ (c .before .before .before .before .before .before .before .before .before .before .before .before .before .before .before .before .before .next .given .1)) .0, (found-inside (c .before .before .before .before .before .before .before .before .before .before .before .before .before .before .before .before .before .before .before .before .before .before .before .before .before .before .before .before .args .input .now) (c .before .before .before .before .before .before .before .before .before .before .before .before .before .before .before .before .before .before .before .before .before .before .before .loop .taken) _ (c .before .before .before .before .before .before .before .before .before .before .before .before .before .before .before .before .before .before .before .before .before .before .before .loop .inv .0 .inside) (c .before .before .before .before .before .before .before .before .before .before .before .before .before .before .before .before .before .before .before .record-at .ensures) _ _ (c .before .before .before .before .before .before .before .before .before .before .before .before .before .before .before .before .before .next .given .1)) .1)
+loop-less-2 c = let g = found-at (c .before .before .before .before .before .before .before .before .before .before .before .before .before .before .before .before .before) in omega arith
 
 loop-again-2 : tie.Need-loop-again-2 Inv-loop μ-loop
-loop-again-2 c = (kept-on (c .before .before .before .before .before .before .before .before .before .before .before .before .before .before .before .before .before .before .before .before .before .before .before .loop .inv .0) _ _ _ _ _ (c .before .before .before .before .before .before .before .before .before .before .before .before .before .before .before .before .before .before .before .before .before .before .loop-test .taken) (omega (arith, c .before .before .before .before .before .before .before .before .before .before .before .before .before .before .before .before .before .before .before .before .before .if1 .left, c .before .before .before .before .before .before .before .before .before .before .before .before .before .before .before .before .before .before .before .before .before .before .before .loop .inv .0 .grown .within, c .before .before .before .before .before .before .before .before .before .before .before .before .before .before .before .before .before .before .before .before .before .before .before .loop .inv .0 .grown .as-long)) (found (c .before .before .before .before .before .before .before .before .before .before .before .before .before .before .before .before .before .before .before .before .before .before .before .before .before .before .before .before .args .input .now) (c .before .before .before .before .before .before .before .before .before .before .before .before .before .before .before .before .before .before .before .before .before .before .before .loop .taken) _ (c .before .before .before .before .before .before .before .before .before .before .before .before .before .before .before .before .before .before .before .before .before .before .before .loop .inv .0 .inside) (c .before .before .before .before .before .before .before .before .before .before .before .before .before .before .before .before .before .before .before .record-at .ensures) _ _ (c .before .before .before .before .before .before .before .before .before .before .before .before .before .before .before .before .before .next .given .1)) (board-taken _ _ _ _ (c .before .before .before .before .before .before .before .before .before .before .before .before .before .before .before .named .ensures) _ _ _ (c .before .before .before .before .before .before .before .before .before .before .before .before .before .whom .given .1) (omega (arith, board-within _ _ _ _ (sym (c .before .before .before .before .before .before .before .before .before .before .before .before .before .before .before .named .ensures) ∙ c .before .before .before .before .before .before .before .before .before .before .before .before .before .whom .given .1), c .before .before .before .before .before .before .before .before .before .before .before .before .before .before .before .before .before .before .before .before .before .before .before .loop .inv .1)) (c .before .before .before .before .before .before .before .before .step .ensures .0) (c .before .if2 .left)) (c .before .before .before .before .before .line .ensures .0) (c .before .before .before .before .before .line .ensures .1), simp length-set (c .before .before .before .before .before .before .before .before .before .before .before .before .before .before .before .before .before .before .before .before .before .before .before .loop .inv .1), c .before .before .before .before .before .before .before .before .before .before .before .before .before .before .before .before .before .before .before .before .before .before .before .loop .inv .2)
+loop-again-2 c = (kept-on _ (found-at (c .before .before .before .before .before .before .before .before .before .before .before .before .before .before .before .before .before)) _ _ _ (board-taken _ _ _ _ (c .before .before .before .before .before .before .before .before .before .before .before .before .before .before .before .named .ensures) _ _ _ (c .before .before .before .before .before .before .before .before .before .before .before .before .before .whom .given .1) (omega (arith, board-here (c .before .before .before .before .before .before .before .before .before .before .before .before .before), c .before .before .before .before .before .before .before .before .before .before .before .before .before .before .before .before .before .before .before .before .before .before .before .loop .inv .1)) (c .before .before .before .before .before .before .before .before .step .ensures .0) (c .before .if2 .left)) (c .before .before .before .before .before .line .ensures .0) (c .before .before .before .before .before .line .ensures .1), simp length-set (c .before .before .before .before .before .before .before .before .before .before .before .before .before .before .before .before .before .before .before .before .before .before .before .loop .inv .1), c .before .before .before .before .before .before .before .before .before .before .before .before .before .before .before .before .before .before .before .before .before .before .before .loop .inv .2)
 
 mul-g : tie.Need-mul-g Inv-loop μ-loop
-mul-g c = omega (arith, shard-within _ _ _ _ (sym (c .before .before .before .named .ensures) ∙ c .before .whom2 .given .1))
+mul-g c = omega (arith, shard-here (c .before))
 
 array-copy-out-g : tie.Need-array-copy-out-g Inv-loop μ-loop
-array-copy-out-g c = shard-within _ _ _ _ (sym (c .before .before .before .named .ensures) ∙ c .before .whom2 .given .1)
+array-copy-out-g c = shard-here (c .before)
 
 sub-step-2 : tie.Need-sub-step-2 Inv-loop μ-loop
-sub-step-2 c = omega (arith, (found-inside (c .before .before .before .before .before .before .before .before .before .before .before .before .before .before .before .before .before .args .input .now) (c .before .before .before .before .before .before .before .before .before .before .before .before .loop .taken) _ (c .before .before .before .before .before .before .before .before .before .before .before .before .loop .inv .0 .inside) (c .before .before .before .before .before .before .before .before .record-at .ensures) _ _ (c .before .before .before .before .before .before .next .given .1)) .0, (found-inside (c .before .before .before .before .before .before .before .before .before .before .before .before .before .before .before .before .before .args .input .now) (c .before .before .before .before .before .before .before .before .before .before .before .before .loop .taken) _ (c .before .before .before .before .before .before .before .before .before .before .before .before .loop .inv .0 .inside) (c .before .before .before .before .before .before .before .before .record-at .ensures) _ _ (c .before .before .before .before .before .before .next .given .1)) .1)
+sub-step-2 c = let g = found-at (c .before .before .before .before .before .before) in omega arith
 
 part-step-start-2 : tie.Need-part-step-start-2 Inv-loop μ-loop
-part-step-start-2 c = omega (arith, (found-inside (c .before .before .before .before .before .before .before .before .before .before .before .before .before .before .before .before .before .args .input .now) (c .before .before .before .before .before .before .before .before .before .before .before .before .loop .taken) _ (c .before .before .before .before .before .before .before .before .before .before .before .before .loop .inv .0 .inside) (c .before .before .before .before .before .before .before .before .record-at .ensures) _ _ (c .before .before .before .before .before .before .next .given .1)) .0, (found-inside (c .before .before .before .before .before .before .before .before .before .before .before .before .before .before .before .before .before .args .input .now) (c .before .before .before .before .before .before .before .before .before .before .before .before .loop .taken) _ (c .before .before .before .before .before .before .before .before .before .before .before .before .loop .inv .0 .inside) (c .before .before .before .before .before .before .before .before .record-at .ensures) _ _ (c .before .before .before .before .before .before .next .given .1)) .1)
+part-step-start-2 c = let g = found-at (c .before .before .before .before .before .before) in omega arith
 
 part-step-end-2 : tie.Need-part-step-end-2 Inv-loop μ-loop
-part-step-end-2 c = omega (arith, (found-inside (c .before .before .before .before .before .before .before .before .before .before .before .before .before .before .before .before .before .args .input .now) (c .before .before .before .before .before .before .before .before .before .before .before .before .loop .taken) _ (c .before .before .before .before .before .before .before .before .before .before .before .before .loop .inv .0 .inside) (c .before .before .before .before .before .before .before .before .record-at .ensures) _ _ (c .before .before .before .before .before .before .next .given .1)) .0, (found-inside (c .before .before .before .before .before .before .before .before .before .before .before .before .before .before .before .before .before .args .input .now) (c .before .before .before .before .before .before .before .before .before .before .before .before .loop .taken) _ (c .before .before .before .before .before .before .before .before .before .before .before .before .loop .inv .0 .inside) (c .before .before .before .before .before .before .before .before .record-at .ensures) _ _ (c .before .before .before .before .before .before .next .given .1)) .1)
+part-step-end-2 c = let g = found-at (c .before .before .before .before .before .before) in omega arith
 
 line-requires-2 : tie.Need-line-requires-2 Inv-loop μ-loop
-line-requires-2 c κs = omega (arith, c .before .before .before .before .before .before .before .before .before .before .before .before .before .before .before .if1 .left, c .before .before .before .before .before .before .before .before .before .before .before .before .before .before .before .before .before .loop .inv .0 .grown .within, c .before .before .before .before .before .before .before .before .before .before .before .before .before .before .before .before .before .loop .inv .0 .grown .as-long)
+line-requires-2 c κs = let g = found-at (c .before .before .before .before .before .before .before .before .before .before .before) in omega (arith, c .before .before .before .before .before .before .before .before .before .before .before .before .before .before .before .before .before .loop .inv .0 .grown .as-long)
 
 add-index-2 : tie.Need-add-index-2 Inv-loop μ-loop
-add-index-2 c = omega (arith, c .before .before .before .before .before .before .before .before .before .before .before .before .before .before .before .before .before .before .before .loop-test .taken)
+add-index-2 c = let g = found-at (c .before .before .before .before .before .before .before .before .before .before .before .before .before .before) in omega arith
 
 loop-less-3 : tie.Need-loop-less-3 Inv-loop μ-loop
-loop-less-3 c = omega (arith, (found-inside (c .before .before .before .before .before .before .before .before .before .before .before .before .before .before .before .before .before .before .before .before .before .before .before .before .before .before .before .args .input .now) (c .before .before .before .before .before .before .before .before .before .before .before .before .before .before .before .before .before .before .before .before .before .before .loop .taken) _ (c .before .before .before .before .before .before .before .before .before .before .before .before .before .before .before .before .before .before .before .before .before .before .loop .inv .0 .inside) (c .before .before .before .before .before .before .before .before .before .before .before .before .before .before .before .before .before .before .record-at .ensures) _ _ (c .before .before .before .before .before .before .before .before .before .before .before .before .before .before .before .before .next .given .1)) .0, (found-inside (c .before .before .before .before .before .before .before .before .before .before .before .before .before .before .before .before .before .before .before .before .before .before .before .before .before .before .before .args .input .now) (c .before .before .before .before .before .before .before .before .before .before .before .before .before .before .before .before .before .before .before .before .before .before .loop .taken) _ (c .before .before .before .before .before .before .before .before .before .before .before .before .before .before .before .before .before .before .before .before .before .before .loop .inv .0 .inside) (c .before .before .before .before .before .before .before .before .before .before .before .before .before .before .before .before .before .before .record-at .ensures) _ _ (c .before .before .before .before .before .before .before .before .before .before .before .before .before .before .before .before .next .given .1)) .1)
+loop-less-3 c = let g = found-at (c .before .before .before .before .before .before .before .before .before .before .before .before .before .before .before .before) in omega arith
 
 loop-again-3 : tie.Need-loop-again-3 Inv-loop μ-loop
-loop-again-3 c = (kept-on (c .before .before .before .before .before .before .before .before .before .before .before .before .before .before .before .before .before .before .before .before .before .before .loop .inv .0) _ _ _ _ _ (c .before .before .before .before .before .before .before .before .before .before .before .before .before .before .before .before .before .before .before .before .before .loop-test .taken) (omega (arith, c .before .before .before .before .before .before .before .before .before .before .before .before .before .before .before .before .before .before .before .before .if1 .left, c .before .before .before .before .before .before .before .before .before .before .before .before .before .before .before .before .before .before .before .before .before .before .loop .inv .0 .grown .within, c .before .before .before .before .before .before .before .before .before .before .before .before .before .before .before .before .before .before .before .before .before .before .loop .inv .0 .grown .as-long)) (found (c .before .before .before .before .before .before .before .before .before .before .before .before .before .before .before .before .before .before .before .before .before .before .before .before .before .before .before .args .input .now) (c .before .before .before .before .before .before .before .before .before .before .before .before .before .before .before .before .before .before .before .before .before .before .loop .taken) _ (c .before .before .before .before .before .before .before .before .before .before .before .before .before .before .before .before .before .before .before .before .before .before .loop .inv .0 .inside) (c .before .before .before .before .before .before .before .before .before .before .before .before .before .before .before .before .before .before .record-at .ensures) _ _ (c .before .before .before .before .before .before .before .before .before .before .before .before .before .before .before .before .next .given .1)) (shard-refused _ _ _ _ (c .before .before .before .before .before .before .before .before .before .before .before .before .before .before .named .ensures) _ _ _ (c .before .before .before .before .before .before .before .before .before .before .before .before .whom2 .given .1) (omega (arith, shard-within _ _ _ _ (sym (c .before .before .before .before .before .before .before .before .before .before .before .before .before .before .named .ensures) ∙ c .before .before .before .before .before .before .before .before .before .before .before .before .whom2 .given .1), c .before .before .before .before .before .before .before .before .before .before .before .before .before .before .before .before .before .before .before .before .before .before .loop .inv .2)) (c .before .before .before .before .before .before .before .step2 .ensures .0 .0) (c .if3 .taken)) (c .before .before .before .before .line2 .ensures .0) (c .before .before .before .before .line2 .ensures .1), c .before .before .before .before .before .before .before .before .before .before .before .before .before .before .before .before .before .before .before .before .before .before .loop .inv .1, c .before .before .before .before .before .before .before .before .before .before .before .before .before .before .before .before .before .before .before .before .before .before .loop .inv .2)
+loop-again-3 c = (kept-on _ (found-at (c .before .before .before .before .before .before .before .before .before .before .before .before .before .before .before .before)) _ _ _ (shard-refused _ _ _ _ (c .before .before .before .before .before .before .before .before .before .before .before .before .before .before .named .ensures) _ _ _ (c .before .before .before .before .before .before .before .before .before .before .before .before .whom2 .given .1) (omega (arith, shard-here (c .before .before .before .before .before .before .before .before .before .before .before .before), c .before .before .before .before .before .before .before .before .before .before .before .before .before .before .before .before .before .before .before .before .before .before .loop .inv .2)) (c .before .before .before .before .before .before .before .step2 .ensures .0 .0) (c .if3 .taken)) (c .before .before .before .before .line2 .ensures .0) (c .before .before .before .before .line2 .ensures .1), c .before .before .before .before .before .before .before .before .before .before .before .before .before .before .before .before .before .before .before .before .before .before .loop .inv .1, c .before .before .before .before .before .before .before .before .before .before .before .before .before .before .before .before .before .before .before .before .before .before .loop .inv .2)
 
 mul-shards : tie.Need-mul-shards Inv-loop μ-loop
-mul-shards c = omega (arith, shard-within _ _ _ _ (sym (c .before .before .before .before .before .before .before .before .before .before .before .before .before .before .before .named .ensures) ∙ c .before .before .before .before .before .before .before .before .before .before .before .before .before .whom2 .given .1))
+mul-shards c = omega (arith, shard-here (c .before .before .before .before .before .before .before .before .before .before .before .before .before))
 
 array-set-from-shards : tie.Need-array-set-from-shards Inv-loop μ-loop
-array-set-from-shards c = shard-within _ _ _ _ (sym (c .before .before .before .before .before .before .before .before .before .before .before .before .before .before .before .named .ensures) ∙ c .before .before .before .before .before .before .before .before .before .before .before .before .before .whom2 .given .1)
+array-set-from-shards c = shard-here (c .before .before .before .before .before .before .before .before .before .before .before .before .before)
 
 loop-less-4 : tie.Need-loop-less-4 Inv-loop μ-loop
-loop-less-4 c = omega (arith, (found-inside (c .before .before .before .before .before .before .before .before .before .before .before .before .before .before .before .before .before .before .before .before .before .before .before .before .before .before .before .before .args .input .now) (c .before .before .before .before .before .before .before .before .before .before .before .before .before .before .before .before .before .before .before .before .before .before .before .loop .taken) _ (c .before .before .before .before .before .before .before .before .before .before .before .before .before .before .before .before .before .before .before .before .before .before .before .loop .inv .0 .inside) (c .before .before .before .before .before .before .before .before .before .before .before .before .before .before .before .before .before .before .before .record-at .ensures) _ _ (c .before .before .before .before .before .before .before .before .before .before .before .before .before .before .before .before .before .next .given .1)) .0, (found-inside (c .before .before .before .before .before .before .before .before .before .before .before .before .before .before .before .before .before .before .before .before .before .before .before .before .before .before .before .before .args .input .now) (c .before .before .before .before .before .before .before .before .before .before .before .before .before .before .before .before .before .before .before .before .before .before .before .loop .taken) _ (c .before .before .before .before .before .before .before .before .before .before .before .before .before .before .before .before .before .before .before .before .before .before .before .loop .inv .0 .inside) (c .before .before .before .before .before .before .before .before .before .before .before .before .before .before .before .before .before .before .before .record-at .ensures) _ _ (c .before .before .before .before .before .before .before .before .before .before .before .before .before .before .before .before .before .next .given .1)) .1)
+loop-less-4 c = let g = found-at (c .before .before .before .before .before .before .before .before .before .before .before .before .before .before .before .before .before) in omega arith
 
 loop-again-4 : tie.Need-loop-again-4 Inv-loop μ-loop
-loop-again-4 c = (kept-on (c .before .before .before .before .before .before .before .before .before .before .before .before .before .before .before .before .before .before .before .before .before .before .before .loop .inv .0) _ _ _ _ _ (c .before .before .before .before .before .before .before .before .before .before .before .before .before .before .before .before .before .before .before .before .before .before .loop-test .taken) (omega (arith, c .before .before .before .before .before .before .before .before .before .before .before .before .before .before .before .before .before .before .before .before .before .if1 .left, c .before .before .before .before .before .before .before .before .before .before .before .before .before .before .before .before .before .before .before .before .before .before .before .loop .inv .0 .grown .within, c .before .before .before .before .before .before .before .before .before .before .before .before .before .before .before .before .before .before .before .before .before .before .before .loop .inv .0 .grown .as-long)) (found (c .before .before .before .before .before .before .before .before .before .before .before .before .before .before .before .before .before .before .before .before .before .before .before .before .before .before .before .before .args .input .now) (c .before .before .before .before .before .before .before .before .before .before .before .before .before .before .before .before .before .before .before .before .before .before .before .loop .taken) _ (c .before .before .before .before .before .before .before .before .before .before .before .before .before .before .before .before .before .before .before .before .before .before .before .loop .inv .0 .inside) (c .before .before .before .before .before .before .before .before .before .before .before .before .before .before .before .before .before .before .before .record-at .ensures) _ _ (c .before .before .before .before .before .before .before .before .before .before .before .before .before .before .before .before .before .next .given .1)) (shard-taken _ _ _ _ (c .before .before .before .before .before .before .before .before .before .before .before .before .before .before .before .named .ensures) _ _ _ (c .before .before .before .before .before .before .before .before .before .before .before .before .before .whom2 .given .1) (omega (arith, shard-within _ _ _ _ (sym (c .before .before .before .before .before .before .before .before .before .before .before .before .before .before .before .named .ensures) ∙ c .before .before .before .before .before .before .before .before .before .before .before .before .before .whom2 .given .1), c .before .before .before .before .before .before .before .before .before .before .before .before .before .before .before .before .before .before .before .before .before .before .before .loop .inv .2)) (c .before .before .before .before .before .before .before .before .step2 .ensures .0 .0) (c .before .if3 .left)) (c .before .before .before .before .before .line2 .ensures .0) (c .before .before .before .before .before .line2 .ensures .1), c .before .before .before .before .before .before .before .before .before .before .before .before .before .before .before .before .before .before .before .before .before .before .before .loop .inv .1, simp length-set (c .before .before .before .before .before .before .before .before .before .before .before .before .before .before .before .before .before .before .before .before .before .before .before .loop .inv .2))
+loop-again-4 c = (kept-on _ (found-at (c .before .before .before .before .before .before .before .before .before .before .before .before .before .before .before .before .before)) _ _ _ (shard-taken _ _ _ _ (c .before .before .before .before .before .before .before .before .before .before .before .before .before .before .before .named .ensures) _ _ _ (c .before .before .before .before .before .before .before .before .before .before .before .before .before .whom2 .given .1) (omega (arith, shard-here (c .before .before .before .before .before .before .before .before .before .before .before .before .before), c .before .before .before .before .before .before .before .before .before .before .before .before .before .before .before .before .before .before .before .before .before .before .before .loop .inv .2)) (c .before .before .before .before .before .before .before .before .step2 .ensures .0 .0) (c .before .if3 .left)) (c .before .before .before .before .before .line2 .ensures .0) (c .before .before .before .before .before .line2 .ensures .1), c .before .before .before .before .before .before .before .before .before .before .before .before .before .before .before .before .before .before .before .before .before .before .before .loop .inv .1, simp length-set (c .before .before .before .before .before .before .before .before .before .before .before .before .before .before .before .before .before .before .before .before .before .before .before .loop .inv .2))
 
 line-requires-3 : tie.Need-line-requires-3 Inv-loop μ-loop
-line-requires-3 c κs = omega (arith, c .before .before .before .before .before .before .before .before .before .if1 .left, c .before .before .before .before .before .before .before .before .before .before .before .loop .inv .0 .grown .within, c .before .before .before .before .before .before .before .before .before .before .before .loop .inv .0 .grown .as-long)
+line-requires-3 c κs = let g = found-at (c .before .before .before .before .before) in omega (arith, c .before .before .before .before .before .before .before .before .before .before .before .loop .inv .0 .grown .as-long)
 
 add-index-3 : tie.Need-add-index-3 Inv-loop μ-loop
-add-index-3 c = omega (arith, c .before .before .before .before .before .before .before .before .before .before .before .before .before .loop-test .taken)
+add-index-3 c = let g = found-at (c .before .before .before .before .before .before .before .before) in omega arith
 
 loop-less-5 : tie.Need-loop-less-5 Inv-loop μ-loop
-loop-less-5 c = omega (arith, (found-inside (c .before .before .before .before .before .before .before .before .before .before .before .before .before .before .before .before .before .before .before .args .input .now) (c .before .before .before .before .before .before .before .before .before .before .before .before .before .before .loop .taken) _ (c .before .before .before .before .before .before .before .before .before .before .before .before .before .before .loop .inv .0 .inside) (c .before .before .before .before .before .before .before .before .before .before .record-at .ensures) _ _ (c .before .before .before .before .before .before .before .before .next .given .1)) .0, (found-inside (c .before .before .before .before .before .before .before .before .before .before .before .before .before .before .before .before .before .before .before .args .input .now) (c .before .before .before .before .before .before .before .before .before .before .before .before .before .before .loop .taken) _ (c .before .before .before .before .before .before .before .before .before .before .before .before .before .before .loop .inv .0 .inside) (c .before .before .before .before .before .before .before .before .before .before .record-at .ensures) _ _ (c .before .before .before .before .before .before .before .before .next .given .1)) .1)
+loop-less-5 c = let g = found-at (c .before .before .before .before .before .before .before .before) in omega arith
 
 loop-again-5 : tie.Need-loop-again-5 Inv-loop μ-loop
-loop-again-5 c = (kept-on (c .before .before .before .before .before .before .before .before .before .before .before .before .before .before .loop .inv .0) _ _ _ _ _ (c .before .before .before .before .before .before .before .before .before .before .before .before .before .loop-test .taken) (omega (arith, c .before .before .before .before .before .before .before .before .before .before .before .before .if1 .left, c .before .before .before .before .before .before .before .before .before .before .before .before .before .before .loop .inv .0 .grown .within, c .before .before .before .before .before .before .before .before .before .before .before .before .before .before .loop .inv .0 .grown .as-long)) (found (c .before .before .before .before .before .before .before .before .before .before .before .before .before .before .before .before .before .before .before .args .input .now) (c .before .before .before .before .before .before .before .before .before .before .before .before .before .before .loop .taken) _ (c .before .before .before .before .before .before .before .before .before .before .before .before .before .before .loop .inv .0 .inside) (c .before .before .before .before .before .before .before .before .before .before .record-at .ensures) _ _ (c .before .before .before .before .before .before .before .before .next .given .1)) (nobody-turned _ _ _ _ (c .before .before .before .before .before .before .named .ensures) (c .before .before .before .before .enum-told .given .1)) (c .before .before .line3 .ensures .0) (c .before .before .line3 .ensures .1), c .before .before .before .before .before .before .before .before .before .before .before .before .before .before .loop .inv .1, c .before .before .before .before .before .before .before .before .before .before .before .before .before .before .loop .inv .2)
+loop-again-5 c = (kept-on _ (found-at (c .before .before .before .before .before .before .before .before)) _ _ _ (nobody-turned _ _ _ _ (c .before .before .before .before .before .before .named .ensures) (c .before .before .before .before .enum-told .given .1)) (c .before .before .line3 .ensures .0) (c .before .before .line3 .ensures .1), c .before .before .before .before .before .before .before .before .before .before .before .before .before .before .loop .inv .1, c .before .before .before .before .before .before .before .before .before .before .before .before .before .before .loop .inv .2)
 
 same-length : tie.Need-same-length Inv-loop μ-loop
 same-length c = c .before .loop .inv .0 .grown .as-long
