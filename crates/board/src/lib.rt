@@ -10,6 +10,7 @@ ghost use mathlib.Core.Path.{_≡_};
 ghost use Prim.Native.Nat.{_<_, max};
 ghost use lib.ListN.{length, take};
 ghost use Rattle.board.specs.Model.{emptyBoard, inRange, startOf, slotOf, nameOf, positionOf, placeOf, followedOf, raisedOf, queuesAfter, framesOf, stepOf, outOf};
+ghost use Rattle.frames.specs.View.{Bytes};
 ghost use Rattle.send.specs.Model.{Sends};
 use entry::Entry;
 use frames::Head;
@@ -249,9 +250,11 @@ fn sent(
 // ---- The step
 
 // 11: the start was refused, or the out area is under 68 bytes. Then the verdict: 1, 2 and the kind's own refusals; or what the frame
-// changes is stored, and what the entry now makes this board send is written. A refusal changes nothing and writes nothing.
+// changes is stored, and what the entry now makes this board send is written. A refusal changes nothing and writes nothing. That a frame
+// is bytes is all that crate board_means asks of it.
 pub fn step(b: Board, frame: &[u8], out: &mut [u8]) -> Stepped
     ensures { λ r. ⌜ (r ≡ stepOf b (now (frame .entry)) (length (now (out .entry)))) × (now (out .exit) ≡ outOf b (now (frame .entry)) (now (out .entry))) ⌝ }
+    ensures { λ r. ⌜ Bytes (now (frame .entry)) ⌝ }
 {
     let mut r = b;
     let unusable = !r.started | (out.len() < 68);

@@ -261,6 +261,14 @@ start-means n m own =
       state = k .state;
     }
 
+-- ---- What the promises come to
+
+pub start-promised : (n m own : ℕ) (r : Started) → r ≡ startOf n m own → StartMeans n m own r
+start-promised n m own r p = rw p (start-means n m own)
+
+pub step-promised : (b : Board) (s before : List ℕ) → Bytes s → (r : Stepped) (out : List ℕ) → (r ≡ stepOf b s (length before)) × (out ≡ outOf b s before) → Held b → StepMeans b s before r out
+step-promised b s before bytes r out p held = rw (p .0, p .1) (step-means b held s bytes before)
+
 -- ---- One outcome
 
 -- any two outcomes that the promise of a step admits are one

@@ -13,7 +13,7 @@ returns c =
     let at-step2 = at-step3 .before .before .before .before .before in
     let at-step = at-step2 .before .before .before .before .before in
     let at-start = at-step .before .before .before .before in
-    played-F (at-start .start .result) (at-step .step .result) (at-step2 .step2 .result) (at-step3 .step3 .result) (at-step4 .step4 .result) (at-step5 .step5 .result) _ _ _ _ _ (at-start .start .ensures) (at-step .step .ensures .0) (at-step2 .step2 .ensures .0) (at-step3 .step3 .ensures .0) (at-step4 .step4 .ensures .0) (at-step5 .step5 .ensures .0) (search needs) (omega (arith, at-step .step .kept .1 .1 .0)) (omega (arith, at-step .step .kept .1 .1 .0, at-step2 .step2 .kept .1 .1 .0)) (omega (arith, at-step .step .kept .1 .1 .0, at-step2 .step2 .kept .1 .1 .0, at-step3 .step3 .kept .1 .1 .0)) (omega (arith, at-step .step .kept .1 .1 .0, at-step2 .step2 .kept .1 .1 .0, at-step3 .step3 .kept .1 .1 .0, at-step4 .step4 .kept .1 .1 .0))
+    played-F (at-start .start .result) (at-step .step .result) (at-step2 .step2 .result) (at-step3 .step3 .result) (at-step4 .step4 .result) (at-step5 .step5 .result) _ _ _ _ _ (at-start .start .ensures) (at-step .step .ensures .0 .0) (at-step2 .step2 .ensures .0 .0) (at-step3 .step3 .ensures .0 .0) (at-step4 .step4 .ensures .0 .0) (at-step5 .step5 .ensures .0 .0) (search needs) (omega (arith, at-step .step .kept .1 .1 .0)) (omega (arith, at-step .step .kept .1 .1 .0, at-step2 .step2 .kept .1 .1 .0)) (omega (arith, at-step .step .kept .1 .1 .0, at-step2 .step2 .kept .1 .1 .0, at-step3 .step3 .kept .1 .1 .0)) (omega (arith, at-step .step .kept .1 .1 .0, at-step2 .step2 .kept .1 .1 .0, at-step3 .step3 .kept .1 .1 .0, at-step4 .step4 .kept .1 .1 .0))
 
 pub play-f-spec : {M : Type 1} → statement M
 play-f-spec = tie.close (tie.spec (λ c κs. search needs) (λ c. search needs) (λ c. search needs) (λ c κs. search needs) (λ c. search needs) (λ c. search needs) (λ c κs. search needs) (λ c. search needs) (λ c. search needs) (λ c κs. search needs) (λ c. search needs) (λ c. search needs) (λ c κs. search needs) (λ c. search needs) (λ c. search needs) (λ c κs. search needs) (λ c. search needs) (λ c. search needs) (λ c. search needs) (λ c. search needs) (λ c. search needs) returns)

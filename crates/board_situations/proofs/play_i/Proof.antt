@@ -10,7 +10,7 @@ returns c =
     let at-step2 = c .before .before .before .before .before .before in
     let at-step = at-step2 .before .before .before .before .before in
     let at-start = at-step .before .before .before .before in
-    played-I (at-start .start .result) (at-step .step .result) (at-step2 .step2 .result) (c .before .step3 .result) _ _ _ (at-start .start .ensures) (at-step .step .ensures .0) (at-step2 .step2 .ensures .0) (c .before .step3 .ensures .0) (search needs) (omega (arith, at-step .step .kept .1 .1 .0)) (omega (arith, at-step .step .kept .1 .1 .0, at-step2 .step2 .kept .1 .1 .0))
+    played-I (at-start .start .result) (at-step .step .result) (at-step2 .step2 .result) (c .before .step3 .result) _ _ _ (at-start .start .ensures) (at-step .step .ensures .0 .0) (at-step2 .step2 .ensures .0 .0) (c .before .step3 .ensures .0 .0) (search needs) (omega (arith, at-step .step .kept .1 .1 .0)) (omega (arith, at-step .step .kept .1 .1 .0, at-step2 .step2 .kept .1 .1 .0))
 
 pub play-i-spec : {M : Type 1} → statement M
 play-i-spec = tie.close (tie.spec (λ c κs. search needs) (λ c. search needs) (λ c. search needs) (λ c κs. search needs) (λ c. search needs) (λ c. search needs) (λ c κs. search needs) (λ c. search needs) (λ c. search needs) (λ c κs. search needs) returns)

@@ -74,7 +74,7 @@ loop-less : tie.Need-loop-less Inv-loop μ-loop
 loop-less c = let g = found-at (c .before .before .before .before .before .before .before .before .before .before .before .before .before .before .before .before) in omega arith
 
 loop-again : tie.Need-loop-again Inv-loop μ-loop
-loop-again c = (kept-on _ (found-at (c .before .before .before .before .before .before .before .before .before .before .before .before .before .before .before .before)) _ _ _ (board-refused _ _ _ _ (c .before .before .before .before .before .before .before .before .before .before .before .before .before .before .named .ensures) _ _ _ (c .before .before .before .before .before .before .before .before .before .before .before .before .whom .given .1) (omega (arith, board-here (c .before .before .before .before .before .before .before .before .before .before .before .before), c .before .before .before .before .before .before .before .before .before .before .before .before .before .before .before .before .before .before .before .before .before .before .loop .inv .1)) (c .before .before .before .before .before .before .before .step .ensures .0) (c .if2 .taken)) (c .before .before .before .before .line .ensures .0) (c .before .before .before .before .line .ensures .1), c .before .before .before .before .before .before .before .before .before .before .before .before .before .before .before .before .before .before .before .before .before .before .loop .inv .1, c .before .before .before .before .before .before .before .before .before .before .before .before .before .before .before .before .before .before .before .before .before .before .loop .inv .2)
+loop-again c = (kept-on _ (found-at (c .before .before .before .before .before .before .before .before .before .before .before .before .before .before .before .before)) _ _ _ (board-refused _ _ _ _ (c .before .before .before .before .before .before .before .before .before .before .before .before .before .before .named .ensures) _ _ _ (c .before .before .before .before .before .before .before .before .before .before .before .before .whom .given .1) (omega (arith, board-here (c .before .before .before .before .before .before .before .before .before .before .before .before), c .before .before .before .before .before .before .before .before .before .before .before .before .before .before .before .before .before .before .before .before .before .before .loop .inv .1)) (c .before .before .before .before .before .before .before .step .ensures .0 .0) (c .if2 .taken)) (c .before .before .before .before .line .ensures .0) (c .before .before .before .before .line .ensures .1), c .before .before .before .before .before .before .before .before .before .before .before .before .before .before .before .before .before .before .before .before .before .before .loop .inv .1, c .before .before .before .before .before .before .before .before .before .before .before .before .before .before .before .before .before .before .before .before .before .before .loop .inv .2)
 
 mul-boards : tie.Need-mul-boards Inv-loop μ-loop
 mul-boards c = omega (arith, board-here (c .before .before .before .before .before .before .before .before .before .before .before .before .before))
@@ -86,7 +86,7 @@ loop-less-2 : tie.Need-loop-less-2 Inv-loop μ-loop
 loop-less-2 c = let g = found-at (c .before .before .before .before .before .before .before .before .before .before .before .before .before .before .before .before .before) in omega arith
 
 loop-again-2 : tie.Need-loop-again-2 Inv-loop μ-loop
-loop-again-2 c = (kept-on _ (found-at (c .before .before .before .before .before .before .before .before .before .before .before .before .before .before .before .before .before)) _ _ _ (board-taken _ _ _ _ (c .before .before .before .before .before .before .before .before .before .before .before .before .before .before .before .named .ensures) _ _ _ (c .before .before .before .before .before .before .before .before .before .before .before .before .before .whom .given .1) (omega (arith, board-here (c .before .before .before .before .before .before .before .before .before .before .before .before .before), c .before .before .before .before .before .before .before .before .before .before .before .before .before .before .before .before .before .before .before .before .before .before .before .loop .inv .1)) (c .before .before .before .before .before .before .before .before .step .ensures .0) (c .before .if2 .left)) (c .before .before .before .before .before .line .ensures .0) (c .before .before .before .before .before .line .ensures .1), simp length-set (c .before .before .before .before .before .before .before .before .before .before .before .before .before .before .before .before .before .before .before .before .before .before .before .loop .inv .1), c .before .before .before .before .before .before .before .before .before .before .before .before .before .before .before .before .before .before .before .before .before .before .before .loop .inv .2)
+loop-again-2 c = (kept-on _ (found-at (c .before .before .before .before .before .before .before .before .before .before .before .before .before .before .before .before .before)) _ _ _ (board-taken _ _ _ _ (c .before .before .before .before .before .before .before .before .before .before .before .before .before .before .before .named .ensures) _ _ _ (c .before .before .before .before .before .before .before .before .before .before .before .before .before .whom .given .1) (omega (arith, board-here (c .before .before .before .before .before .before .before .before .before .before .before .before .before), c .before .before .before .before .before .before .before .before .before .before .before .before .before .before .before .before .before .before .before .before .before .before .before .loop .inv .1)) (c .before .before .before .before .before .before .before .before .step .ensures .0 .0) (c .before .if2 .left)) (c .before .before .before .before .before .line .ensures .0) (c .before .before .before .before .before .line .ensures .1), simp length-set (c .before .before .before .before .before .before .before .before .before .before .before .before .before .before .before .before .before .before .before .before .before .before .before .loop .inv .1), c .before .before .before .before .before .before .before .before .before .before .before .before .before .before .before .before .before .before .before .before .before .before .before .loop .inv .2)
 
 mul-g : tie.Need-mul-g Inv-loop μ-loop
 mul-g c = omega (arith, shard-here (c .before))
