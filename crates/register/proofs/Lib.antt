@@ -4,3 +4,4 @@ pub mod Meets
 pub mod Shapes
 pub mod Records
 pub mod InMemory
+pub mod Fresh

@@ -7,6 +7,8 @@ use Rattle.session.specs.declared.Sent.{Sent}
 use Rattle.session.specs.declared.Submitted.{Submitted}
 use Rattle.session.specs.declared.Reply.{Reply}
 use Rattle.session.specs.declared.Responded.{Responded}
+use Rattle.board.specs.declared.Board.{Board}
+use Rattle.board.specs.declared.Started.{Started as BoardStarted}
 use Rattle.board.specs.declared.Stepped.{Stepped as BoardStepped}
 use Rattle.shard.specs.declared.Shard.{Shard}
 use Rattle.shard.specs.declared.Started.{Started as ShardStarted}
@@ -26,8 +28,14 @@ responded s reply = record { session = s; reply = reply }
 
 -- ---- A board
 
+abbrev pub boardStarted : Board → ℕ → BoardStarted
+boardStarted b answer = record { board = b; answer = answer }
+
 abbrev pub boardAnswer : BoardStepped → Stepped
 boardAnswer r = record { answer = r .answer; frames = r .frames; bytes = r .bytes }
+
+abbrev pub boardStepped : Board → Stepped → BoardStepped
+boardStepped b r = record { board = b; answer = r .answer; frames = r .frames; bytes = r .bytes }
 
 -- ---- A shard group
 

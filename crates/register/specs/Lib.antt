@@ -1,2 +1,4 @@
 pub mod Given
 pub mod Memory
+pub mod Promised
+pub mod Fresh
