@@ -4,7 +4,7 @@
 
 use crate::ffi::{self, Stepped, LOG};
 use crate::lists::{first, shards, Operation, Read};
-use crate::memory::Memory;
+use crate::memory::{Memory, Raw};
 
 /// A board: its log, what it knows of each client, a queue for each shard.
 #[derive(Debug)]
@@ -20,9 +20,15 @@ impl Board {
     }
 
     /// The same in memory that has been used before. Nothing of what it holds is looked at.
-    pub fn start_in(mut memory: Memory<ffi::Board>, n: u8, m: u8, own: u8) -> (Self, u8) {
-        // SAFETY: a whole record is lent for the call.
-        let answer = unsafe { ffi::board_start(memory.record_mut(), n, m, own) };
+    pub fn start_in(memory: Memory<ffi::Board>, n: u8, m: u8, own: u8) -> (Self, u8) {
+        Self::start_over(memory.into(), n, m, own)
+    }
+
+    /// The same over any bytes.
+    pub fn start_over(raw: Raw<ffi::Board>, n: u8, m: u8, own: u8) -> (Self, u8) {
+        // SAFETY: memory of a whole record is lent for the call, which looks at nothing that lies
+        // there and stores every field.
+        let (memory, answer) = unsafe { raw.started(|record| ffi::board_start(record, n, m, own)) };
         (Board { memory }, answer)
     }
 

@@ -19,6 +19,6 @@ pub mod trace;
 pub mod whole;
 
 pub use board::Board;
-pub use memory::Memory;
+pub use memory::{Memory, Raw};
 pub use session::Session;
 pub use shard::Shard;

@@ -157,6 +157,45 @@ macro_rules! record {
 }
 pub(crate) use record;
 
+/// Memory of a record's size that holds any bytes, also bools that are neither 0 nor 1: no record
+/// lies in it until one is started there.
+pub struct Raw<R> {
+    words: Box<[u64]>,
+    record: PhantomData<R>,
+}
+
+impl<R: Record> Raw<R> {
+    /// Memory that holds `bytes`, as many as the record has, as they are.
+    pub fn holding(bytes: &[u8]) -> Self {
+        let mut memory = Memory::<R>::zeroed();
+        memory.bytes_mut().copy_from_slice(bytes);
+        memory.into()
+    }
+
+    /// Lends the memory to a start, and gives the record that it left, and its answer.
+    ///
+    /// # Safety
+    ///
+    /// `start` stores every field.
+    pub(crate) unsafe fn started(mut self, start: impl FnOnce(*mut R) -> u8) -> (Memory<R>, u8) {
+        let answer = start(self.words.as_mut_ptr().cast());
+        let memory = Memory {
+            words: self.words,
+            record: PhantomData,
+        };
+        (memory, answer)
+    }
+}
+
+impl<R> From<Memory<R>> for Raw<R> {
+    fn from(memory: Memory<R>) -> Self {
+        Raw {
+            words: memory.words,
+            record: PhantomData,
+        }
+    }
+}
+
 /// Memory of a record's size, in which each bool is 0 or 1.
 ///
 /// The record in it is never moved as a value, so that its padding, too, stays as the library

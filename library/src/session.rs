@@ -4,7 +4,7 @@
 
 use crate::ffi::{self, Operations, Reply, Sent};
 use crate::lists::{first, Operation, Read};
-use crate::memory::Memory;
+use crate::memory::{Memory, Raw};
 
 /// A session: the next number, and each outstanding number with its operations.
 #[derive(Debug)]
@@ -20,9 +20,15 @@ impl Session {
     }
 
     /// The same in memory that has been used before. Nothing of what it holds is looked at.
-    pub fn start_in(mut memory: Memory<ffi::Session>, client: u8) -> (Self, u8) {
-        // SAFETY: a whole record is lent for the call.
-        let answer = unsafe { ffi::session_start(memory.record_mut(), client) };
+    pub fn start_in(memory: Memory<ffi::Session>, client: u8) -> (Self, u8) {
+        Self::start_over(memory.into(), client)
+    }
+
+    /// The same over any bytes.
+    pub fn start_over(raw: Raw<ffi::Session>, client: u8) -> (Self, u8) {
+        // SAFETY: memory of a whole record is lent for the call, which looks at nothing that lies
+        // there and stores every field.
+        let (memory, answer) = unsafe { raw.started(|record| ffi::session_start(record, client)) };
         (Session { memory }, answer)
     }
 

@@ -3,7 +3,7 @@
 #![allow(unsafe_code)]
 
 use crate::ffi::{self, Stepped};
-use crate::memory::Memory;
+use crate::memory::{Memory, Raw};
 
 /// A shard group: what stands under each key.
 #[derive(Debug)]
@@ -28,9 +28,15 @@ impl Shard {
     }
 
     /// The same in memory that has been used before. Nothing of what it holds is looked at.
-    pub fn start_in(mut memory: Memory<ffi::Shard>, m: u8, own: u8) -> (Self, u8) {
-        // SAFETY: a whole record is lent for the call.
-        let answer = unsafe { ffi::shard_start(memory.record_mut(), m, own) };
+    pub fn start_in(memory: Memory<ffi::Shard>, m: u8, own: u8) -> (Self, u8) {
+        Self::start_over(memory.into(), m, own)
+    }
+
+    /// The same over any bytes.
+    pub fn start_over(raw: Raw<ffi::Shard>, m: u8, own: u8) -> (Self, u8) {
+        // SAFETY: memory of a whole record is lent for the call, which looks at nothing that lies
+        // there and stores every field.
+        let (memory, answer) = unsafe { raw.started(|record| ffi::shard_start(record, m, own)) };
         (Shard { memory }, answer)
     }
 

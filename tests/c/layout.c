@@ -1,8 +1,8 @@
 /* Does the header say how the library's records lie? Two checks:
  *   1. each record's size and alignment, and each field's offset and size, beside the table that is proved of the library's types (layout.inc, which .ci/c-tests
  *      makes of crates/register/proofs/InMemory.antt);
- *   2. the library itself: a run that gives every field of every record a value of its own, each read through the header; and starts on
- *      memory full of garbage, with guards around it. */
+ *   2. the library itself: a run that gives every field of every record a value of its own, each read through the header; starts in the
+ *      memory that this run used; and starts on memory full of garbage, with guards around it. */
 #include <stdio.h>
 #include <string.h>
 
@@ -293,10 +293,54 @@ static unsigned board_differs(const Board *a, const Board *b)
     return d;
 }
 
+/* The boards, the shard group and the session of run() go to another park: what they held is joined to nothing there. */
+static void swapped(void)
+{
+    static const uint8_t submit[] = {14, 0, 1, 0, 9, 0, 0, 0, 0, 1, 1, 5, 232, 3, 0, 0};      /* client 9, number 0: held before, new now */
+    static const uint8_t executed[] = {5, 0, 5, 0, 1, 0, 0};                                    /* log number 1 */
+    static const uint8_t exec_notif[] = {6, 0, 4, 0, 2, 0, 0, 0};                               /* shard 2, log number 0 */
+    static const uint8_t append_next[] = {15, 0, 3, 0, 2, 2, 0, 3, 0, 1, 0, 0, 10, 0, 0, 0, 0}; /* sn 3, after the two that ran */
+    static const uint8_t append_first[] = {15, 0, 3, 0, 2, 0, 0, 1, 0, 1, 0, 0, 10, 0, 0, 0, 0}; /* sn 1: get key 10, which was put */
+    static const uint8_t response[] = {6, 0, 6, 0, 9, 0, 0, 0};                                 /* number 0 */
+    static const Operations operations = {1, {{1, 5, 1000}, {0, 0, 0}, {0, 0, 0}, {0, 0, 0}}};
+    static Board fresh_head, fresh_tail;
+    static Shard fresh_group;
+    static Session fresh_session;
+    Sent sent;
+
+    IS(board_start(&head, 4, 3, 1), 0);
+    IS(board_start(&fresh_head, 4, 3, 1), 0);
+    IS(board_start(&tail, 4, 3, 4), 0);
+    IS(board_start(&fresh_tail, 4, 3, 4), 0);
+    IS(shard_start(&group, 3, 2), 0);
+    IS(shard_start(&fresh_group, 3, 2), 0);
+    IS(session_start(&session, 9), 0);
+    IS(session_start(&fresh_session, 9), 0);
+    IS(board_differs(&head, &fresh_head), 0);
+    IS(board_differs(&tail, &fresh_tail), 0);
+    IS(shard_differs(&group, &fresh_group), 0);
+    IS(session_differs(&session, &fresh_session), 0);
+
+    IS(at_board(&head, executed, sizeof executed).answer, 6);
+    IS(at_board(&head, submit, sizeof submit).answer, 0);
+    IS(head.len, 1);
+    IS(at_board(&tail, exec_notif, sizeof exec_notif).answer, 6);
+    IS(at_shard(&group, append_next, sizeof append_next).answer, 4);
+    IS(at_shard(&group, append_first, sizeof append_first).answer, 0);
+    IS(out[9], 0); /* the read at place 0 is absent */
+    IS(session_retry(&session, 0, out, sizeof out).answer, 7);
+    IS(session_response(&session, response, sizeof response).answer, 7);
+    sent = session_invoke(&session, operations, out, sizeof out);
+    IS(sent.answer, 0);
+    IS(sent.number, 0);
+    IS(memcmp(out, submit, sizeof submit), 0);
+}
+
 int main(void)
 {
     table();
     run();
+    swapped();
     ON_GARBAGE(Session, session_start(r, 15), session_differs);
     ON_GARBAGE(Shard, shard_start(r, 8, 7), shard_differs);
     ON_GARBAGE(Board, board_start(r, 8, 5, 3), board_differs);

@@ -3,7 +3,7 @@
 use reference::driver::random::Random;
 
 use crate::ffi::OUT;
-use crate::memory::{Memory, Record};
+use crate::memory::{Memory, Raw, Record};
 
 /// The longest out area that is lent.
 pub const LONGEST: usize = 100;
@@ -98,9 +98,18 @@ pub fn too_small(random: &mut Random) -> usize {
 
 /// Any bytes; a bool is 0 or 1.
 pub fn any_memory<R: Record>(random: &mut Random) -> Memory<R> {
+    Memory::holding(&any_bytes::<R>(random))
+}
+
+/// Any bytes, those of bools too.
+pub fn any_raw<R: Record>(random: &mut Random) -> Raw<R> {
+    Raw::holding(&any_bytes::<R>(random))
+}
+
+fn any_bytes<R>(random: &mut Random) -> Vec<u8> {
     let mut bytes = vec![0; std::mem::size_of::<R>()];
     fill(random, &mut bytes);
-    Memory::holding(&bytes)
+    bytes
 }
 
 /// Fills `bytes` from one number of the generator.
