@@ -3,3 +3,4 @@ pub mod Numbers
 pub mod Changes
 pub mod Judged
 pub mod Means
+pub mod Determined

@@ -1,7 +1,7 @@
 -- What a queue's record means in the rules' words, and what holds of every queue that a board keeps.
 -- Assumes nothing.
 use mathlib.Core.Path.{_≡_}
-use mathlib.Core.List.{List, []}
+use mathlib.Core.List.{List, [], _∷_}
 use mathlib.Core.Option.{Option, none, some}
 use Prim.Native.Nat.{ℕ, zero, suc, _-_, _≤_, _<_}
 use lib.ListN.{length, getD}
@@ -9,7 +9,7 @@ use Rattle.rules.specs.Lists.{if_then_else_, within}
 use Rattle.rules.specs.Queue as Q
 use Rattle.rules.specs.Queue.{emptyQueue}
 use Rattle.queue.specs.declared.Queue.{Queue}
-use Rattle.queue.specs.Model.{waiting}
+use Rattle.queue.specs.Model.{slotsOf, waiting}
 
 -- 0: none
 abbrev pub viewLast : ℕ → Option ℕ
@@ -35,3 +35,12 @@ pub record QueueHeld (most : ℕ) (q : Queue) : Type 0 where
 pub record QueuesHeld (most : ℕ) (qs : List Queue) : Type 0 where
   pub eight : length qs ≡ 8
   pub each : (i : ℕ) → i < 8 → QueueHeld most (getD qs i blankQueue)
+
+-- the slots behind those that wait are zero
+pub record Tidy (q : Queue) : Type 0 where
+  pub few : q .len ≤ 256
+  pub zeros : q .numbers ≡ slotsOf (waiting q)
+
+abbrev pub AllTidy : List Queue → Type 0
+AllTidy [] = Unit {0}
+AllTidy (q ∷ qs) = Tidy q × AllTidy qs

@@ -5,3 +5,4 @@ pub mod Means
 pub mod Replies
 pub mod Promises
 pub mod Ruled
+pub mod Determined

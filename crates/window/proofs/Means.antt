@@ -175,7 +175,7 @@ same-operations : (slots others : List Slot) (number : ℕ) → slotOf slots num
 unfolding outstandingOf
 same-operations slots others number e = ap (λ (s : Slot). record { number = number; operations = operationsOf (s .count) (s .items) }) e
 
-free-outstanding : (slots : List Slot) (number : ℕ) → slotOf slots number ≡ free → T (not (isOutstanding slots number))
+pub free-outstanding : (slots : List Slot) (number : ℕ) → slotOf slots number ≡ free → T (not (isOutstanding slots number))
 unfolding isOutstanding
 free-outstanding slots number e = not-T (waits (slotOf slots number) number) (λ t. free-waits number (rw e at t))
 
@@ -340,7 +340,7 @@ answered-held w number h =
     (λ t. h)
 
 -- what waits in a slot is outstanding
-waiting-outstanding : (slots : List Slot) (next number : ℕ) → Waiting next (number % 8) (slotOf slots number) → T (isOutstanding slots (slotOf slots number .number))
+pub waiting-outstanding : (slots : List Slot) (next number : ℕ) → Waiting next (number % 8) (slotOf slots number) → T (isOutstanding slots (slotOf slots number .number))
 unfolding isOutstanding slotFor
 waiting-outstanding slots next number x =
     let s : Slot = slotOf slots number in
