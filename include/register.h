@@ -6,8 +6,9 @@
  * record and every byte of the out area, refused calls included.
  *
  * Records. Any memory of the record's type will do, static, on the stack or in your own pool. A start looks at nothing that lies there:
- * what it leaves depends on its setup alone. Every other call asks that the record comes from a start and calls of its own kind; to
- * hand in anything else, or to change a field, voids the promises. A record has no pointer in it and may be copied as a whole.
+ * what it leaves, and so what every later call gives, depends on its setup alone; a board with another park's log in its memory joins
+ * nothing of it. Every other call asks that the record comes from a start and calls of its own kind; to hand in anything else, or to
+ * change a field, voids the promises. A record has no pointer in it and may be copied as a whole.
  *
  * Slices. A pointer and the number of bytes it points at. It must not be null, also where the number is 0. A frame, an out area and a
  * record that are lent to one call must not overlap.
