@@ -6,12 +6,12 @@ use mathlib.Core.Logic.{_⊎_, inl, inr}
 use mathlib.Core.Bool.{Bool, true, false}
 use mathlib.Core.List.{List, map}
 use mathlib.Core.Option.{some}
-use Prim.Native.Nat.{ℕ, suc, _+_, _≤_, _<_, max}
+use Prim.Native.Nat.{ℕ, suc, _+_, _-_, _≤_, _<_, max}
 use native.Mathlib.Omega.{arith}
 use native.Mathlib.Nat.{mod-eq-of-lt}
 use native.Mathlib.Numerals.{add-one}
 use lib.Dec.{eqb, eqb→eq}
-use lib.ListN.{length, getD, set, take, length-take, length-set, length-map}
+use lib.ListN.{length, getD, set, take, drop, replicate, length-take, length-set, length-map}
 use lib.Seq.{getD-set-same, getD-set-other}
 use mir.Facts.{eqb-no}
 use Rattle.rules.specs.Lists.{if_then_else_, at, snoc, changed}
@@ -24,20 +24,21 @@ use Rattle.rules.proofs.Lists.{by, at-lt, at-snoc-cases, at-set-cases}
 use Rattle.rules.proofs.Kept.{writes-snoc, writes-set}
 use Rattle.frames.specs.declared.Item.{Item}
 use Rattle.entry.specs.declared.Entry.{Entry}
-use Rattle.entry.specs.Model.{inMask, isEmptyOf, newEntryOf}
+use Rattle.entry.specs.Model.{inMask, isEmptyOf, noEntry, newEntryOf}
 use Rattle.entry.specs.View.{setOf, writeOf, viewEntry, EntryHeld}
 use Rattle.entry.proofs.Sets.{touched-set}
 use Rattle.entry.proofs.Entries.{theWrite, new-view}
 use Rattle.queue.specs.declared.Queue.{Queue}
 use Rattle.queue.specs.Model.{changedAll}
-use Rattle.queue.specs.View.{viewQueues, QueuesHeld}
+use Rattle.queue.specs.View.{viewQueues, QueuesHeld, AllTidy}
 use Rattle.queue.proofs.Meaning.{pushed-view, taken-view, pushed-held, taken-held}
+use Rattle.queue.proofs.Determined.{changed-tidy}
 use Rattle.verdict.specs.declared.Verdict.{Verdict}
 use Rattle.verdict.specs.Model.{nextOf, floorOf}
 use Rattle.board.specs.declared.Board.{Board}
 use Rattle.board.specs.Model.{slotOf, blank, entryAt, nameOf, raisedOf, followedOf, queuesAfter, boardAfter}
 use Rattle.board_means.specs.View.{entriesOf, viewLog, viewBoard, nameIn, maskIn, Columns}
-use Rattle.board_means.proofs.Slots.{take-set, take-snoc, at-take, map-set, map-snoc, at-map}
+use Rattle.board_means.proofs.Slots.{take-set, take-snoc, at-take, map-set, map-snoc, at-map, drop-set, drop-next}
 use Rattle.board_means.proofs.Numbers.{next-snoc}
 
 pub slot-is : (ind : ℕ) → ind < 256 → slotOf ind ≡ ind
@@ -103,6 +104,11 @@ pushed-lie queues shards ind most h =
     (by (QueuesHeld (suc most)) (isEmptyOf shards) (λ t. record { eight = h .eight; each = λ i l. let k = h .each i l in record { slots = k .slots; few = let f = k .few in omega arith } })
     (λ t. pushed-held queues shards ind most h))
 
+after-tidy : (queues : List Queue) (fresh : Bool) (shards ind : ℕ) → AllTidy queues → AllTidy (queuesAfter queues fresh shards ind)
+unfolding queuesAfter
+after-tidy queues fresh shards ind h =
+    by AllTidy (isEmptyOf shards) (λ t. h) (λ t. changed-tidy queues fresh shards ind h)
+
 -- ---- The changes
 
 module _ (b : Board) (c : Columns b) where
@@ -152,6 +158,9 @@ module _ (b : Board) (c : Columns b) where
         rw (slot-is ind small) (take-set l ind (b .len) x inside ∙ ((λ i. set (h i) ind (d i)) ∙ sym (map-set f (entriesOf b) ind e′)))
         ∙ ap (map f) (sym after)
 
+    rest : {A : Type 0} (l : List A) (x : A) → drop (b .len) (set l (slotOf ind) x) ≡ drop (b .len) l
+    rest l x = rw (slot-is ind small) (drop-set l ind (b .len) x inside)
+
     pub replaced-columns : Columns (boardAfter b ind verdict)
     unfolding boardAfter followedOf raisedOf
     replaced-columns =
@@ -159,14 +168,18 @@ module _ (b : Board) (c : Columns b) where
           slots = rw length-set (c .slots);
           few = c .few;
           entries = λ i x h. each i x (rw after at h);
+          log-rest = rest (b .log) e′ ∙ c .log-rest;
           name-slots = rw length-set (c .name-slots);
           names = column nameIn (b .names) (nameOf (e′ .client) (e′ .number)) (c .names) refl;
+          name-rest = rest (b .names) (nameOf (e′ .client) (e′ .number)) ∙ c .name-rest;
           mask-slots = rw length-set (c .mask-slots);
           masks = column (maskIn (b .m)) (b .touched) (maskIn (b .m) e′) (c .masks) refl;
+          mask-rest = rest (b .touched) (maskIn (b .m) e′) ∙ c .mask-rest;
           clients = unfold if_then_else_ in (c .clients);
           next = λ d. unfold if_then_else_ in (c .next d ∙ ap (nextNumber d) (sym writes-stay ∙ ap (λ l. writes (viewLog (b .m) l)) (sym after)));
           floors = rw length-set (c .floors);
           queues = taken-lie (b .queues) shards ind (b .len) (c .queues) (c .few);
+          tidy = after-tidy (b .queues) false shards ind (c .tidy);
         }
       where
         each : (i : ℕ) (x : Entry) → at (set (entriesOf b) ind e′) i ≡ some x → EntryHeld (b .m) x
@@ -197,6 +210,12 @@ module _ (b : Board) (c : Columns b) where
     longer : {A : Type 0} (l : List A) (x : A) → length l ≡ 256 → take (b .len + 1) (set l (slotOf (b .len)) x) ≡ snoc (take (b .len) l) x
     longer l x h = rw (slot-is (b .len) room) (take-snoc l (b .len) x (omega arith))
 
+    shorter : {A : Type 0} (l : List A) (x y : A) → drop (b .len) l ≡ replicate (256 - b .len) y → drop (b .len + 1) (set l (slotOf (b .len)) x) ≡ replicate (256 - (b .len + 1)) y
+    shorter {A} l x y h =
+        let k : 256 - b .len ≡ suc (256 - suc (b .len)) = omega arith in
+        rw (slot-is (b .len) room, add-one (b .len))
+        (drop-set l (b .len) (suc (b .len)) x (omega arith) ∙ drop-next l (b .len) (256 - suc (b .len)) y (h ∙ ap (λ (n : ℕ). replicate {A = A} n y) k))
+
     pub entries-longer : entriesOf (boardAfter b (b .len) newVerdict) ≡ snoc (entriesOf b) theNew
     unfolding boardAfter
     entries-longer = longer (b .log) theNew (c .slots)
@@ -211,14 +230,18 @@ module _ (b : Board) (c : Columns b) where
           slots = rw length-set (c .slots);
           few = omega arith;
           entries = λ i x h. each i x (rw (longer (b .log) theNew (c .slots)) at h);
+          log-rest = shorter (b .log) theNew noEntry (c .log-rest);
           name-slots = rw length-set (c .name-slots);
           names = column nameIn (b .names) (nameIn theNew) (c .name-slots) (c .names) refl;
+          name-rest = shorter (b .names) (nameIn theNew) 0 (c .name-rest);
           mask-slots = rw length-set (c .mask-slots);
           masks = column (maskIn (b .m)) (b .touched) (maskIn (b .m) theNew) (c .mask-slots) (c .masks) refl;
+          mask-rest = shorter (b .touched) (maskIn (b .m) theNew) 0 (c .mask-rest);
           clients = unfold followedOf if_then_else_ in (rw length-set (c .clients));
           next = λ d. rw (longer (b .log) theNew (c .slots), log-longer, writes-snoc (viewLog (b .m) (entriesOf b)) (newEntry (b .m) (theWrite client number count items))) (following d);
           floors = unfold raisedOf in (rw length-set (c .floors));
           queues = pushed-lie (b .queues) (theNew .remaining) (b .len) (b .len) (c .queues);
+          tidy = after-tidy (b .queues) true (theNew .remaining) (b .len) (c .tidy);
         }
       where
         each : (i : ℕ) (x : Entry) → at (snoc (entriesOf b) theNew) i ≡ some x → EntryHeld (b .m) x

@@ -36,6 +36,7 @@ use Rattle.entry.proofs.Entries.{theWrite}
 use Rattle.queue.specs.declared.Queue.{Queue}
 use Rattle.queue.specs.Model.{noQueue}
 use Rattle.queue.specs.View.{viewQueue, viewQueues, blankQueue}
+use Rattle.queue.proofs.Determined.{none-tidy}
 use Rattle.send.specs.Model.{laid}
 use Rattle.verdict.specs.Model.{nextOf, refuseOf, judgeOf}
 use Rattle.board.specs.declared.Board.{Board}
@@ -223,14 +224,18 @@ empty-columns n m own started =
       slots = length-replicate 256 noEntry;
       few = omega arith;
       entries = λ ind e a. nothing a;
+      log-rest = refl;
       name-slots = length-replicate {A = ℕ} 256 0;
       names = refl;
+      name-rest = refl;
       mask-slots = length-replicate {A = ℕ} 256 0;
       masks = refl;
+      mask-rest = refl;
       clients = length-replicate {A = ℕ} 16 0;
       next = λ c. zeros 16 c;
       floors = length-replicate {A = ℕ} 16 0;
       queues = record { eight = length-replicate 8 noQueue; each = λ i l. rw (same-each 8 i noQueue blankQueue l) (record { slots = length-replicate {A = ℕ} 256 0; few = omega arith }) };
+      tidy = none-tidy 8;
     }
 
 record Begins (r : Started) (o : O.Outcome B.Board) : Type 0 where

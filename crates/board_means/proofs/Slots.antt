@@ -7,7 +7,7 @@ use mathlib.Core.Option.{none, some}
 use Prim.Native.Nat.{ℕ, zero, suc, _+_, _≤_, _<_}
 use native.Mathlib.Omega.{arith}
 use native.Mathlib.Numerals.{add-one}
-use lib.ListN.{length, getD, set, take}
+use lib.ListN.{length, getD, set, take, drop, replicate}
 use lib.Seq.{take-suc-set}
 use Rattle.rules.specs.Lists.{at, snoc}
 use Rattle.rules.proofs.Lists.{nothing}
@@ -58,3 +58,22 @@ module _ {A : Type 0} where
   at-set [] i x h = absurd (omega arith)
   at-set (y ∷ l) zero x h = refl
   at-set (y ∷ l) (suc i) x h = at-set l i x (omega arith)
+
+-- ---- What lies behind the list
+
+module _ {A : Type 0} where
+  pub drop-set : (l : List A) (i n : ℕ) (x : A) → i < n → drop n (set l i x) ≡ drop n l
+  drop-set l i zero x h = absurd (omega arith)
+  drop-set [] i (suc n) x h = refl
+  drop-set (y ∷ l) zero (suc n) x h = refl
+  drop-set (y ∷ l) (suc i) (suc n) x h = drop-set l i n x (omega arith)
+
+  -- one of them fewer
+  pub drop-next : (l : List A) (n k : ℕ) (x : A) → drop n l ≡ replicate (suc k) x → drop (suc n) l ≡ replicate k x
+  drop-next [] zero k x e = nothing-left e
+    where
+      nothing-left : _≡_ {A = List A} [] (x ∷ replicate k x) → _≡_ {A = List A} [] (replicate k x)
+      nothing-left e = let z : _≡_ {A = ℕ} 0 1 = cc in absurd (omega arith)
+  drop-next [] (suc n) k x e = let z : _≡_ {A = ℕ} 0 1 = cc in absurd (omega arith)
+  drop-next (y ∷ l) zero k x e = let d : l ≡ replicate k x = cc in d
+  drop-next (y ∷ l) (suc n) k x e = drop-next l n k x e

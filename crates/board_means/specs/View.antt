@@ -4,18 +4,18 @@ use mathlib.Core.Path.{_≡_}
 use mathlib.Core.Bool.{_&&_}
 use mathlib.Core.List.{List, map}
 use mathlib.Core.Option.{some}
-use Prim.Native.Nat.{ℕ, _≤_}
+use Prim.Native.Nat.{ℕ, _-_, _≤_}
 use lib.Dec.{T}
-use lib.ListN.{length, take}
+use lib.ListN.{length, take, drop, replicate}
 use Rattle.rules.specs.Lists.{at, within}
 use Rattle.rules.specs.Outcomes.{frameCount, byteCount, outAfter}
 use Rattle.rules.specs.Board as B
 use Rattle.rules.specs.Board.{writes, nextNumber}
 use Rattle.rules.specs.Kept.{Kept, SizesKept, NumbersKept}
 use Rattle.entry.specs.declared.Entry.{Entry}
-use Rattle.entry.specs.Model.{touchedOf}
+use Rattle.entry.specs.Model.{touchedOf, noEntry}
 use Rattle.entry.specs.View.{viewEntry, EntryHeld}
-use Rattle.queue.specs.View.{viewQueues, QueuesHeld}
+use Rattle.queue.specs.View.{viewQueues, QueuesHeld, AllTidy}
 use Rattle.verdict.specs.Model.{nextOf, floorOf}
 use Rattle.board.specs.declared.Board.{Board}
 use Rattle.board.specs.declared.Started.{Started}
@@ -48,20 +48,24 @@ nameIn e = nameOf (e .client) (e .number)
 abbrev pub maskIn : ℕ → Entry → ℕ
 maskIn m e = touchedOf m (e .count) (e .items)
 
--- How the record lies: every array has its length, every entry is one that is kept, the columns say what the entries say, next is
--- each client's high + 1, and no queue is longer than the log.
+-- How the record lies: every array has its length, every entry is one that is kept, the columns say what the entries say, behind the log's
+-- end all is empty, next is each client's high + 1, no queue is longer than the log, and its free slots are zero.
 pub record Columns (b : Board) : Type 0 where
   pub slots : length (b .log) ≡ 256
   pub few : b .len ≤ 256
   pub entries : (ind : ℕ) (e : Entry) → at (entriesOf b) ind ≡ some e → EntryHeld (b .m) e
+  pub log-rest : drop (b .len) (b .log) ≡ replicate (256 - b .len) noEntry
   pub name-slots : length (b .names) ≡ 256
   pub names : take (b .len) (b .names) ≡ map nameIn (entriesOf b)
+  pub name-rest : drop (b .len) (b .names) ≡ replicate (256 - b .len) 0
   pub mask-slots : length (b .touched) ≡ 256
   pub masks : take (b .len) (b .touched) ≡ map (maskIn (b .m)) (entriesOf b)
+  pub mask-rest : drop (b .len) (b .touched) ≡ replicate (256 - b .len) 0
   pub clients : length (b .next) ≡ 16
   pub next : (c : ℕ) → nextOf (b .next) c ≡ nextNumber c (writes (viewLog (b .m) (entriesOf b)))
   pub floors : length (b .floor) ≡ 16
   pub queues : QueuesHeld (b .len) (b .queues)
+  pub tidy : AllTidy (b .queues)
 
 -- What every start gives and every step keeps.
 pub record Held (b : Board) : Type 0 where

@@ -7,7 +7,7 @@ use mathlib.Core.List.{List, [], _∷_, map}
 use mathlib.Core.Option.{Option, some}
 use Prim.Native.Nat.{ℕ, zero, suc, _+_, _≤_, _<_}
 use native.Mathlib.Omega.{arith}
-use lib.Dec.{T, leb, leb→le, le→leb}
+use lib.Dec.{T, leb, leb→le, le→leb, T-not}
 use lib.ListN.{length, getD, set, length-set}
 use lib.Seq.{getD-set-same, getD-set-other}
 use Rattle.rules.specs.Lists.{at}
@@ -173,6 +173,17 @@ module _ (Q : Item → Type 0) (s : ℕ → Bool) where
   after-store p [] o k = λ slots rs h n q e i d a. nothing a
   after-store p (o′ ∷ os) o k = λ slots rs h n q e i d a. one-more p o′ os o k slots n (after-store (suc p) os o k) rs (head p o′ os rs e) h q i d a
 
+  -- a slot behind those of the operations is as before
+  pub behind : (p : ℕ) (os : List Operation) (slots rs : List Item) → placesOf rs ≡ getPlaces (keep s (placed p os)) → (k : ℕ) → p + length os ≤ k → slot (storedAll slots rs) k ≡ slot slots k
+  behind p [] slots [] e k l = refl
+  behind p [] slots (r ∷ rs) e k l = no-cons e
+  behind p (o ∷ os) slots rs e k l = go (head p o os rs e) (λ slots rs f. behind (suc p) os slots rs f k (omega arith))
+    where
+      go : Head p o os rs → ((slots rs : List Item) → placesOf rs ≡ getPlaces (keep s (placed (suc p) os)) → slot (storedAll slots rs) k ≡ slot slots k)
+          → slot (storedAll slots rs) k ≡ slot slots k
+      go (mine r rest t d q f) ih = rw d (ih (set slots (r .place) r) rest f ∙ getD-set-other slots (r .place) k r noItem (λ z. omega arith))
+      go (other t f) ih = ih slots rs f
+
 -- ---- Reads that depend on some slots only
 
 pub same-reads : (t : ℕ → Bool) (p : ℕ) (os : List Operation) (see saw : ℕ → Option ℕ)
@@ -189,3 +200,29 @@ same-reads t p (o ∷ os) see saw h =
         ≡ gatherOne (record { place = p; operation = o }) o saw (gather (keep t (placed (suc p) os)) saw)
     go (get key) f u e = λ i. record { place = p; value = f tt u i } ∷ e i
     go (put key value) f u e = e
+
+-- and the reads of the gets that pass a test tell what these slots say
+abbrev Told : (t : ℕ → Bool) (see tell : ℕ → Option ℕ) → ℕ → List Operation → Type 0
+Told t see tell p os = (i : ℕ) (o : Operation) → at os i ≡ some o → T (isGet o) → T (t (keyOf o)) → see (p + i) ≡ tell (p + i)
+
+pub told : (t : ℕ → Bool) (see tell : ℕ → Option ℕ) (p : ℕ) (os : List Operation) → gather (keep t (placed p os)) see ≡ gather (keep t (placed p os)) tell → Told t see tell p os
+told t see tell p [] = λ e i o a. nothing a
+told t see tell p (x ∷ os) =
+    by (λ (l : List Placed). gather l see ≡ gather l tell → Told t see tell p (x ∷ os)) (t (keyOf x)) (λ u e. yes x e (told t see tell (suc p) os)) (λ u e. no u (told t see tell (suc p) os e))
+  where
+    later : (o : Operation) → Told t see tell (suc p) os → (i : ℕ) → at os i ≡ some o → T (isGet o) → T (t (keyOf o)) → see (p + suc i) ≡ tell (p + suc i)
+    later o ih i a g h = let z : suc p + i ≡ p + suc i = omega arith in rw z at (ih i o a g h)
+
+    yes : (x : Operation) → gatherOne (record { place = p; operation = x }) x see (gather (keep t (placed (suc p) os)) see) ≡ gatherOne (record { place = p; operation = x }) x tell (gather (keep t (placed (suc p) os)) tell)
+        → (gather (keep t (placed (suc p) os)) see ≡ gather (keep t (placed (suc p) os)) tell → Told t see tell (suc p) os) → Told t see tell p (x ∷ os)
+    yes (get key) e ih zero o a g h =
+        let r : _≡_ {A = Read} (record { place = p; value = see p }) (record { place = p; value = tell p }) = cc in
+        let z : p + 0 ≡ p = omega arith in
+        rw z (ap (λ (x : Read). x .value) r)
+    yes (get key) e ih (suc i) o a g h = let rest : gather (keep t (placed (suc p) os)) see ≡ gather (keep t (placed (suc p) os)) tell = cc in later o (ih rest) i a g h
+    yes (put key value) e ih zero o a g h = let d : put key value ≡ o = cc in absurd (rw (← d) at g)
+    yes (put key value) e ih (suc i) o a g h = later o (ih e) i a g h
+
+    no : T (not (t (keyOf x))) → Told t see tell (suc p) os → Told t see tell p (x ∷ os)
+    no u ih zero o a g h = let d : x ≡ o = cc in absurd (T-not (t (keyOf o)) (rw d at u) h)
+    no u ih (suc i) o a g h = later o ih i a g h

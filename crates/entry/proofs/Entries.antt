@@ -3,11 +3,11 @@
 use mathlib.Core.Path.{_≡_, refl, sym, ap, _∙_, fun-ext}
 use mathlib.Core.Bool.{Bool, true, false, not, _&&_, _||_}
 use mathlib.Core.List.{List, [], _∷_, map}
-use mathlib.Core.Option.{none, some}
+use mathlib.Core.Option.{Option, none, some}
 use Prim.Native.Nat.{ℕ, zero, suc, _≤_, _<_}
 use native.Mathlib.Omega.{arith}
 use lib.Dec.{T, leb, eqb, leb→le, eqb→eq, T-not}
-use lib.ListN.{length, getD, set, take, length-set, length-replicate}
+use lib.ListN.{length, getD, set, take, replicate, length-set, length-replicate}
 use Rattle.rules.specs.Lists.{if_then_else_, at, isEmpty, every, has, strike}
 use Rattle.rules.specs.Transactions.{Operation, Write, Read, keyOf, shardOf, touched, placed, keep, onShard, getPlaces, gather}
 use Rattle.rules.specs.Frames.{okReads}
@@ -24,10 +24,10 @@ use Rattle.frames.specs.Frames.{noItem, okItem, okFrom, okItems}
 use Rattle.frames.specs.View.{asRead, operationsOf, readsOf, CanonItem, CanonFrom, Canon}
 use Rattle.entry.specs.declared.Entry.{Entry}
 use Rattle.entry.specs.Model.{inMask, insertOf, strikeOf, isEmptyOf, touchedMask, touchedOf, storedAll, storedOf, noItems, newEntryOf, heardFromOf, finishedOf}
-use Rattle.entry.specs.View.{setOf, saw, heardKey, writeOf, viewEntry, isGet, ReadOf, EntryHeld}
+use Rattle.entry.specs.View.{setOf, saw, heardKey, writeOf, viewEntry, isGet, ReadOf, answeredGet, EntryHeld}
 use Rattle.entry.proofs.Masks.{bit-room}
 use Rattle.entry.proofs.Sets.{in-set, strike-set, empty-set, touched-set}
-use Rattle.entry.proofs.ByPlace.{Each, After, new, old, stored-reads, after-store, same-reads}
+use Rattle.entry.proofs.ByPlace.{Each, After, new, old, stored-reads, after-store, behind, same-reads}
 
 -- ---- What a frame's reads are
 
@@ -67,6 +67,19 @@ taken-rise p (suc n) (r ∷ rs) h =
 stored-length : (slots rs : List Item) → length slots ≡ 4 → length (storedAll slots rs) ≡ 4
 stored-length slots [] h = h
 stored-length slots (r ∷ rs) h = stored-length (set slots (r .place) r) rs (rw length-set h)
+
+-- ---- Slots of which none was answered
+
+blanks : (n p : ℕ) → getD (replicate n noItem) p noItem ≡ noItem
+blanks zero p = refl
+blanks (suc n) zero = refl
+blanks (suc n) (suc p) = blanks n p
+
+-- no operation has a place behind the list
+past : (os : List Operation) (p : ℕ) → at os p ≡ none → length os ≤ p
+past [] p a = omega arith
+past (o ∷ os) zero a = nothing (sym a)
+past (o ∷ os) (suc p) a = let h = past os p a in omega arith
 
 -- ---- A new entry
 
@@ -121,6 +134,7 @@ new-held m client number ack count items lo hi n ok c r =
       answered = unfold newEntryOf in (λ p o a g h.
           let t = every-at (λ x. has (shardOf m (keyOf x)) (touched m (operationsOf count items))) (operationsOf count items) p o (touched-every m (operationsOf count items)) a in
           absurd (T-not (has (shardOf m (keyOf o)) (touched m (operationsOf count items))) (rw (touched-set m count items lo hi) at h) t));
+      unanswered = unfold newEntryOf in (λ p t. blanks 4 p);
       byte = unfold newEntryOf touchedOf in (touched-byte m (take count items));
       kept = rw (new-view m client number count items lo hi) (new-entry m (theWrite client number count items) ack r);
     }
@@ -206,6 +220,7 @@ module _ (m : ℕ) (e : Entry) (held : EntryHeld m e) (j k : ℕ) (rs : List Ite
         canon = unfold heardFromOf in (held .canon);
         places = unfold heardFromOf storedOf in (stored-length (e .reads) (take k rs) (held .places));
         answered = unfold heardFromOf storedOf in answered;
+        unanswered = unfold heardFromOf storedOf in (λ p t. unanswered p (at os p) refl t);
         byte = unfold heardFromOf in strike-byte;
         kept = rw heard-view (heard-entry m j (readsOf k rs) (viewEntry m e) (held .kept) (unfold viewEntry in has-j) (carried .obeys) (unfold viewEntry writeOf in fit));
       }
@@ -223,6 +238,27 @@ module _ (m : ℕ) (e : Entry) (held : EntryHeld m e) (j k : ℕ) (rs : List Ite
           go : After AsRead (isGet o && mine (keyOf o)) p (getD (e .reads) p noItem) (getD slots′ p noItem) → ReadOf p (getD slots′ p noItem)
           go (new t x y) = record { place = x; ok = y .ok; canon = y .canon }
           go (old t x) = rw x (held .answered p o a g (still (mine (keyOf o)) (before (keyOf o)) g t now))
+
+      unanswered : (p : ℕ) (x : Option Operation) → x ≡ at os p → T (not (answeredGet m (setOf (strikeOf (e .remaining) j)) x)) → getD slots′ p noItem ≡ noItem
+      unanswered p none a t = behind AsRead mine 0 os (e .reads) (take k rs) fitting p (let l = past os p (sym a) in omega arith) ∙ held .unanswered p (rw (← a) tt)
+      unanswered p (some o) a t = go (after p o (sym a))
+        where
+          never : T (not (isGet o && (mine (keyOf o) || before (keyOf o))))
+          never = rw (then-heard (keyOf o)) at t
+
+          apart-from : (g s t : Bool) → T (not (g && (s || t))) → T (g && s) → ⊥
+          apart-from true true t x y = x
+          apart-from true false t x y = y
+          apart-from false s t x y = y
+
+          nor : (g s t : Bool) → T (not (g && (s || t))) → T (not (g && t))
+          nor true true t x = absurd x
+          nor true false t x = x
+          nor false s t x = tt
+
+          go : After AsRead (isGet o && mine (keyOf o)) p (getD (e .reads) p noItem) (getD slots′ p noItem) → getD slots′ p noItem ≡ noItem
+          go (new u x y) = absurd (apart-from (isGet o) (mine (keyOf o)) (before (keyOf o)) never u)
+          go (old u x) = x ∙ held .unanswered p (rw (← a) (nor (isGet o) (mine (keyOf o)) (before (keyOf o)) never))
 
 -- ---- Finished
 
@@ -263,6 +299,7 @@ module _ (m : ℕ) (e : Entry) (held : EntryHeld m e) (k : ℕ) (rs : List Item)
         canon = unfold finishedOf in (held .canon);
         places = unfold finishedOf storedOf in (stored-length noItems (take k rs) (length-replicate 4 noItem));
         answered = unfold finishedOf storedOf in answered;
+        unanswered = unfold finishedOf storedOf in (λ p t. unanswered p (at all p) refl t);
         byte = unfold finishedOf in (omega arith);
         kept = rw finished-view (finished-entry m (readsOf k rs) (viewEntry m e) (held .kept) (carried .obeys) (unfold viewEntry writeOf in fit));
       }
@@ -275,3 +312,13 @@ module _ (m : ℕ) (e : Entry) (held : EntryHeld m e) (k : ℕ) (rs : List Item)
           go : After AsRead (isGet o && true) p (getD noItems p noItem) (getD (storedAll noItems (take k rs)) p noItem) → ReadOf p (getD (storedAll noItems (take k rs)) p noItem)
           go (new t x y) = record { place = x; ok = y .ok; canon = y .canon }
           go (old t x) = absurd (T-not (isGet o && true) t (and (isGet o) true g tt))
+
+      unanswered : (p : ℕ) (x : Option Operation) → x ≡ at all p → T (not (answeredGet m (setOf 0) x)) → getD (storedAll noItems (take k rs)) p noItem ≡ noItem
+      unanswered p none a t = behind AsRead (λ key. true) 0 all noItems (take k rs) fits-all p (let l = past all p (sym a) in omega arith) ∙ blanks 4 p
+      unanswered p (some o) a t =
+          go (after-store AsRead (λ key. true) 0 all o p noItems (take k rs) (taken-rise 0 k rs (carried .items)) (length-replicate 4 noItem)
+          (each-read 0 0 k rs (carried .items) (carried .canon)) fits-all p (omega arith) (sym a))
+        where
+          go : After AsRead (isGet o && true) p (getD noItems p noItem) (getD (storedAll noItems (take k rs)) p noItem) → getD (storedAll noItems (take k rs)) p noItem ≡ noItem
+          go (new u x y) = absurd (T-not (isGet o && true) (rw (nobody (keyOf o)) at t) u)
+          go (old u x) = x ∙ blanks 4 p

@@ -6,3 +6,4 @@ pub mod Meaning
 pub mod Entries
 pub mod Held
 pub mod Ruled
+pub mod Determined

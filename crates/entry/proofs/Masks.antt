@@ -195,3 +195,22 @@ pub empty-mask : (mask : ℕ) → mask < 256 → ((x : ℕ) → inMask mask x �
 empty-mask mask h f =
     digits-zero 8 mask h
     (λ k l. let e : suc k - 1 ≡ k = omega arith in rw (← e) (out-zero mask (suc k) (omega arith) (omega arith) (f (suc k))))
+
+-- two bytes with the same shards are the same
+digits-same : (n x y : ℕ) → x < 2 ^ n → y < 2 ^ n → ((k : ℕ) → k < n → digit k x ≡ digit k y) → x ≡ y
+digits-same zero x y h l f = omega arith
+digits-same (suc n) x y h l f =
+    let e = digits-same n (x / 2) (y / 2) (omega (arith, pow-suc 2 n)) (omega (arith, pow-suc 2 n)) (λ k u. f (suc k) (omega arith)) in
+    let z = f 0 (omega arith) in
+    omega arith
+
+pub same-mask : (x y : ℕ) → x < 256 → y < 256 → ((j : ℕ) → inMask x j ≡ inMask y j) → x ≡ y
+same-mask x y h l f =
+    digits-same 8 x y h l
+    (λ k u.
+    let e : suc k - 1 ≡ k = omega arith in
+    rw (← e) (go (suc k) (omega arith) (omega arith) (inMask x (suc k)) refl))
+  where
+    go : (j : ℕ) → 1 ≤ j → j ≤ 8 → (b : Bool) → b ≡ inMask x j → digit (j - 1) x ≡ digit (j - 1) y
+    go j lo hi true e = in-one x j (sym e) ∙ sym (in-one y j (sym (f j) ∙ sym e))
+    go j lo hi false e = out-zero x j lo hi (sym e) ∙ sym (out-zero y j lo hi (sym (f j) ∙ sym e))

@@ -1,9 +1,9 @@
 -- What an entry's record means in the rules' words, and what holds of every entry that a board keeps.
 -- Assumes nothing.
 use mathlib.Core.Path.{_≡_}
-use mathlib.Core.Bool.{Bool, true, false, not}
+use mathlib.Core.Bool.{Bool, true, false, not, _&&_}
 use mathlib.Core.List.{List, [], _∷_}
-use mathlib.Core.Option.{Option, some}
+use mathlib.Core.Option.{Option, none, some}
 use Prim.Native.Nat.{ℕ, zero, suc, _<_}
 use lib.Dec.{T}
 use lib.ListN.{length, getD}
@@ -65,8 +65,13 @@ abbrev pub isGet : Operation → Bool
 isGet (get key) = true
 isGet (put key value) = false
 
+-- whether the operation at a place is a get that was answered
+abbrev pub answeredGet : ℕ → List ℕ → Option Operation → Bool
+answeredGet m remaining none = false
+answeredGet m remaining (some o) = isGet o && heardKey m remaining (keyOf o)
+
 -- What every new entry is and every change keeps: the operations as a frame carries them, four slots of each, a byte of shards, in the
--- slot of every get that was answered its read, and what the rules keep of an entry.
+-- slot of every get that was answered its read, zero in every other, and what the rules keep of an entry.
 pub record EntryHeld (m : ℕ) (e : Entry) : Type 0 where
   pub slots : length (e .items) ≡ 4
   pub items : T (okItems (e .count) (e .items))
@@ -74,5 +79,6 @@ pub record EntryHeld (m : ℕ) (e : Entry) : Type 0 where
   pub places : length (e .reads) ≡ 4
   pub answered : (p : ℕ) (o : Operation) → at (operationsOf (e .count) (e .items)) p ≡ some o → T (isGet o) → T (heardKey m (setOf (e .remaining)) (keyOf o))
       → ReadOf p (getD (e .reads) p noItem)
+  pub unanswered : (p : ℕ) → T (not (answeredGet m (setOf (e .remaining)) (at (operationsOf (e .count) (e .items)) p))) → getD (e .reads) p noItem ≡ noItem
   pub byte : e .remaining < 256
   pub kept : EntryKept m (viewEntry m e)

@@ -1,6 +1,7 @@
 -- A queue whose free slots are zero is determined by what it means; and an empty queue is so, and every push and every taking keeps it.
 -- Assumes nothing.
 use mathlib.Core.Path.{_≡_, refl, sym, ap, _∙_}
+use mathlib.Core.Bool.{Bool}
 use mathlib.Core.List.{List, [], _∷_, _++_}
 use Prim.Native.Nat.{ℕ, zero, suc, _+_, _-_, _≤_, _<_}
 use native.Mathlib.Numerals.{add-one}
@@ -13,7 +14,7 @@ use Rattle.rules.specs.Queue as Q
 use Rattle.rules.proofs.Lists.{by, if-yes, and, nothing}
 use Rattle.entry.specs.Model.{inMask}
 use Rattle.queue.specs.declared.Queue.{Queue}
-use Rattle.queue.specs.Model.{slotsOf, noQueue, waiting, pushedOf, upTo, leftOf, without, takenOf, changeFrom, pushedAll, takenAll}
+use Rattle.queue.specs.Model.{slotsOf, noQueue, waiting, pushedOf, upTo, leftOf, without, takenOf, changeFrom, changedOf, changedAll}
 use Rattle.queue.specs.View.{viewLast, viewQueue, blankQueue, viewQueues, Tidy, AllTidy}
 
 last-one : (p q : ℕ) → viewLast p ≡ viewLast q → p ≡ q
@@ -96,13 +97,10 @@ change-tidy : (change : Queue → Queue) → ((q : Queue) → Tidy q → Tidy (c
 change-tidy change keeps mask shard [] h = tt
 change-tidy change keeps mask shard (q ∷ qs) h = (by Tidy (inMask mask shard) (λ t. keeps q (h .0)) (λ t. h .0), change-tidy change keeps mask (suc shard) qs (h .1))
 
-pub pushed-tidy : (qs : List Queue) (mask ind : ℕ) → AllTidy qs → AllTidy (pushedAll qs mask ind)
-unfolding pushedAll
-pushed-tidy qs mask ind h = change-tidy (λ q. pushedOf q ind) (λ q k. push-tidy q ind k) mask 1 qs h
-
-pub taken-tidy : (qs : List Queue) (mask ind : ℕ) → AllTidy qs → AllTidy (takenAll qs mask ind)
-unfolding takenAll
-taken-tidy qs mask ind h = change-tidy (λ q. takenOf q ind) (λ q k. take-tidy q ind k) mask 1 qs h
+pub changed-tidy : (qs : List Queue) (fresh : Bool) (mask ind : ℕ) → AllTidy qs → AllTidy (changedAll qs fresh mask ind)
+unfolding changedAll
+changed-tidy qs fresh mask ind h =
+    change-tidy (changedOf fresh ind) (λ q k. by Tidy fresh (λ t. push-tidy q ind k) (λ t. take-tidy q ind k)) mask 1 qs h
 
 each-tidy : (qs : List Queue) (i : ℕ) → i < length qs → AllTidy qs → Tidy (getD qs i blankQueue)
 each-tidy [] i l h = absurd (omega arith)

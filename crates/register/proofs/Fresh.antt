@@ -29,8 +29,7 @@ use Rattle.shard.specs.Model as Shards
 use Rattle.shard.specs.View.{viewShard}
 use Rattle.shard.proofs.Promises as Shards′
 use Rattle.register.specs.Given.{boardAnswer, shardAnswer}
-use Rattle.register.specs.Promised.{SessionStarts, SessionInvokes, SessionRetries, SessionResponds, BoardStarts, BoardSteps, ShardStarts, ShardSteps}
-use Rattle.register.specs.Fresh.{Agent, Goes, Fresh, AllFresh, boards, shards, SessionCall, invoke, retry, response, SessionGiven, sends, replies, SessionDoes, sessions, NothingLogged, NothingStored, NothingAsked, JoinsNothing}
+use Rattle.register.specs.Fresh.{Agent, Goes, Fresh, AllFresh, boards, shards, SessionCall, invoke, retry, response, SessionGiven, sends, replies, SessionDoes, sessions, JoinsNothing}
 
 -- ---- The law
 

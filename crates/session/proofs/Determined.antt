@@ -2,7 +2,6 @@
 -- Assumes nothing.
 use mathlib.Core.Path.{_≡_, ap}
 use Rattle.rules.specs.Session as R
-use Rattle.window.specs.declared.Window.{Window}
 use Rattle.window.proofs.Determined as Windows
 use Rattle.session.specs.declared.Session.{Session}
 use Rattle.session.specs.View.{viewSession, Held}

@@ -1,23 +1,20 @@
 -- A window is determined by what it means: two windows that are held and mean the same are the same, slot by slot.
 -- Assumes nothing.
 use mathlib.Core.Path.{_≡_, sym, ap, _∙_}
-use mathlib.Core.Logic.{_⊎_, ⊎-elim}
-use mathlib.Core.List.{List}
-use mathlib.Core.Option.{Option, none, some}
+use mathlib.Core.Logic.{⊎-elim}
+use mathlib.Core.Option.{some}
 use Prim.Native.Nat.{ℕ, _%_, _<_}
 use native.Mathlib.Nat.{mod-eq-of-lt}
 use native.Mathlib.Omega.{arith}
 use lib.Dec.{T-not}
-use lib.ListN.{length, getD}
+use lib.ListN.{getD}
 use lib.Seq.{ext-getD}
-use Rattle.rules.specs.Transactions.{Operation}
 use Rattle.rules.specs.Session as R
 use Rattle.rules.proofs.Lists.{either, if-yes, if-no, nothing}
-use Rattle.window.specs.declared.Slot.{Slot}
 use Rattle.window.specs.declared.Window.{Window}
 use Rattle.window.specs.Model.{free, noSlot, slotOf, isOutstanding, keptOf}
 use Rattle.window.specs.View.{viewWindow, slotFor, Waiting, Held}
-use Rattle.window.proofs.Means.{free-outstanding, waiting-outstanding, KeptHere, KeptNowhere, kept-means}
+use Rattle.window.proofs.Means.{free-outstanding, waiting-outstanding, KeptHere, kept-means}
 
 module _ (w v : Window) (h : Held w) (k : Held v) (e : viewWindow w ≡ viewWindow v) where
   -- the rules keep the same operations of a number, or none
