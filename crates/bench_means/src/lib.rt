@@ -1,0 +1,1 @@
+// The bench program in the rules' words: definitions in specs/, theorems in proofs/. No code.
