@@ -1,1 +1,4 @@
 pub mod Example
+pub mod Turns
+pub mod Starts
+pub mod Parts
