@@ -2,3 +2,4 @@ pub mod Example
 pub mod Turns
 pub mod Starts
 pub mod Parts
+pub mod Deliveries

@@ -135,3 +135,33 @@ left-of (suc most) s l =
 -- no whole record is left
 pub none-left : (s : List ℕ) → NoRecord (nextOf (parts s .left))
 none-left s = left-of (length s) s (omega arith)
+
+-- a record's bytes, and those behind it
+first-and-rest : (s : List ℕ) (more : ℕ) → 1 + more ≤ length s → recordBytes (record { address = byteAt s 0; frame = take more (drop 1 s) }) ++ drop (1 + more) s ≡ s
+first-and-rest [] more l = absurd (omega arith)
+first-and-rest (x ∷ s) more l =
+    let e : 1 + more ≡ suc more = omega arith in
+    ap (λ (k : ℕ). x ∷ take more s ++ drop k (x ∷ s)) e ∙ ap (λ (t : List ℕ). x ∷ t) (take-append-drop more s)
+
+joined-by : (s : List ℕ) (x : Next) → Stands s x → (more : List ℕ → Parts) → ((end : ℕ) → 3 ≤ end → end ≤ length s → joined (more (drop end s)) ≡ drop end s)
+    → joined (partsBy s x more) ≡ s
+unfolding partsBy joined
+joined-by s Need (short a) more ih = refl
+joined-by s Need (part a b c) more ih = refl
+joined-by s Cut (over a b) more ih = refl
+joined-by s (Record _ _) (whole a b c) more ih =
+    let end : ℕ = 3 + twoAt s 1 in
+    let e : 1 + (end - 1) ≡ end = omega arith in
+    append-assoc (recordBytes (firstOf s (byteAt s 0) end)) (backToBack recordBytes (more (drop end s) .records)) (more (drop end s) .left)
+    ∙ ap (λ (t : List ℕ). recordBytes (firstOf s (byteAt s 0) end) ++ t) (ih end (omega arith) c)
+    ∙ ap (λ (k : ℕ). recordBytes (firstOf s (byteAt s 0) end) ++ drop k s) (sym e)
+    ∙ first-and-rest s (end - 1) (omega arith)
+
+joined-up-to : (most : ℕ) (s : List ℕ) → joined (partsUpTo most s) ≡ s
+unfolding partsUpTo joined
+joined-up-to zero s = refl
+joined-up-to (suc most) s = joined-by s (nextOf s) (stands s) (partsUpTo most) (λ end lo hi. joined-up-to most (drop end s))
+
+-- nothing is skipped
+pub all-there : (s : List ℕ) → joined (parts s) ≡ s
+all-there s = joined-up-to (length s) s
