@@ -10,21 +10,22 @@ use native.Mathlib.Omega.{arith}
 use lib.Dec.{T, leb, ltb, leb→le, ltb→lt, nltb→le, nleb→lt}
 use lib.ListN.{length, take, drop, getD, length-append, length-drop}
 use lib.Seq.{take-append-le, drop-append-le, drop-drop, getD-drop}
+use borrow.Author.Tests.{lt-leb, le-ltb}
 use Rattle.rules.specs.Lists.{if_then_else_}
-use Rattle.rules.proofs.Lists.{by}
+use Rattle.rules.proofs.Lists.{by, or-cases}
 use Rattle.frames.specs.View.{Bytes}
 use Rattle.lines.specs.Text.{dLine}
 use Rattle.lines.proofs.Short.{d-short}
 use Rattle.records.specs.declared.Next.{Next}
 use Rattle.records.specs.declared.Next.the-variants.{Record, Need, Cut}
 use Rattle.records.specs.Records.{nextOf}
-use Rattle.records.proofs.Records.{record-inside}
+use Rattle.records.proofs.Records.{record-inside, next-short}
 use Rattle.delivery.specs.declared.Register.{Register}
 use Rattle.delivery.specs.Register.{turnOf}
 use Rattle.delivery.specs.Delivery as D
 use Rattle.delivery.specs.Delivery.{Run, frameAt, onward, full, runs, begun, delivered}
 use Rattle.bench_means.specs.Transcript.{Park, Addressed, Parts, parts, Turn, turn, after, dLines}
-use Rattle.bench_means.specs.View.{Means, TurnMeans, NoRecord, before, Done}
+use Rattle.bench_means.specs.View.{Means, TurnMeans, NoRecord, before, Done, lastIndex, Stopped, no-record, no-room, no-index}
 use Rattle.bench_means.proofs.Turns.{turn-means}
 use Rattle.bench_means.proofs.Parts.{record-firm, firstOf, parts-record, parts-none}
 
@@ -127,3 +128,106 @@ pub delivered-means : (r : Register) (p : Park) (first : ℕ) (input : List ℕ)
 delivered-means r p first input room h bytes =
     runs-done p first input bytes (length input) room (begun r first)
     (record { done = []; inside = omega arith; front = λ later. unfold before in refl; text = refl; register = h; index = omega arith })
+
+-- ---- Where it stops
+
+full-stops : (input : List ℕ) (room : ℕ) (run : Run) → T (full room run) → Stopped input room run
+full-stops input room run t =
+    or-cases (leb lastIndex (run .index)) (ltb (room - length (run .text)) 128) t (λ u. no-index (leb→le lastIndex (run .index) u))
+    (λ u. let l = ltb→lt (room - length (run .text)) 128 u in no-room (omega arith))
+
+stops-by :
+    (input : List ℕ) (room : ℕ) (run : Run) (x : Next) → nextOf (drop (run .taken) input) ≡ x → (more : Run → Run) →
+    ((now : Run) → run .taken + 3 ≤ now .taken → now .taken ≤ length input → Stopped input room (more now)) → run .taken ≤ length input → Stopped input room (onward input run x more)
+unfolding onward
+stops-by input room run (Record address end) e more ih inside =
+    let i = record-inside (drop (run .taken) input) address end e in
+    let l = length-drop (run .taken) input in
+    ih _ (omega (arith, i .0)) (omega (arith, i .1))
+stops-by input room run Need e more ih inside = no-record (rw e tt)
+stops-by input room run Cut e more ih inside = no-record (rw e tt)
+
+runs-stop : (input : List ℕ) (room most : ℕ) (run : Run) → run .taken ≤ length input → length input ≤ run .taken + most → Stopped input room (runs most input room run)
+unfolding runs
+runs-stop input room zero run inside l =
+    let d = length-drop (run .taken) input in
+    no-record (rw (next-short (drop (run .taken) input) (omega arith)) tt)
+runs-stop input room (suc most) run inside l =
+    by (Stopped input room) (full room run) (full-stops input room run)
+    (λ t. stops-by input room run (nextOf (drop (run .taken) input)) refl (runs most input room) (λ now on in-it. runs-stop input room most now in-it (omega arith)) inside)
+
+pub delivered-stops : (r : Register) (first : ℕ) (input : List ℕ) (room : ℕ) → Stopped input room (delivered r first input room)
+delivered-stops r first input room = runs-stop input room (length input) (begun r first) (omega arith) (omega arith)
+
+-- where no whole record is left, all of them were done
+pub all-done : (p : Park) (first : ℕ) (input : List ℕ) (run : Run) (d : Done p first input run) → NoRecord (nextOf (drop (run .taken) input))
+    → parts input ≡ record { records = d .done; left = drop (run .taken) input }
+unfolding before
+all-done p first input run d none =
+    ap parts (sym (append-nil input))
+    ∙ d .front []
+    ∙ ap (λ (t : List ℕ). before (d .done) (parts t)) (append-nil (drop (run .taken) input))
+    ∙ ap (before (d .done)) (parts-none (drop (run .taken) input) none)
+    ∙ ap (λ (rs : List Addressed). record { records = rs; left = drop (run .taken) input }) (append-nil (d .done))
+
+-- ---- When the lines of all records find room
+
+lines-short : (p : Park) (index : ℕ) (rs : List Addressed) → length (dLines p index rs) ≤ 128 * length rs
+lines-short p index [] = omega arith
+lines-short p index (r ∷ rs) =
+    let line : List ℕ = dLine index (turn p r .answer) (turn p r .frames) in
+    omega (arith, length-append line (dLines (turn p r .park) (index + 1) rs), d-short index (turn p r .answer) (turn p r .frames), lines-short (turn p r .park) (index + 1) rs)
+
+module _ (p : Park) (first : ℕ) (input : List ℕ) (run : Run) (d : Done p first input run) where
+  -- a record that is left is one that was not done
+  one-left : (address end : ℕ) → nextOf (drop (run .taken) input) ≡ Record address end → length (d .done) + 1 ≤ length (parts input .records)
+  unfolding before
+  one-left address end next =
+      let rest : Parts = parts (drop end (drop (run .taken) input)) in
+      let e : parts input ≡ before (d .done) (before (firstOf (drop (run .taken) input) address end ∷ []) rest)
+      = ap parts (sym (append-nil input)) ∙ d .front []
+      ∙ ap (λ (t : List ℕ). before (d .done) (parts t)) (append-nil (drop (run .taken) input))
+      ∙ ap (before (d .done)) (parts-record (drop (run .taken) input) address end next) in
+      rw e (omega (arith, length-append (d .done) (firstOf (drop (run .taken) input) address end ∷ rest .records)))
+
+  none-but : (x : Next) → nextOf (drop (run .taken) input) ≡ x → (length (d .done) + 1 ≤ length (parts input .records) → ⊥) → NoRecord x
+  none-but (Record address end) e not-one = not-one (one-left address end e)
+  none-but Need e not-one = tt
+  none-but Cut e not-one = tt
+
+  no-more : (room : ℕ) → 128 * length (parts input .records) ≤ room → first + length (parts input .records) ≤ lastIndex → Stopped input room run
+      → NoRecord (nextOf (drop (run .taken) input))
+  no-more room wide few (no-record none) = none
+  no-more room wide few (no-room l) = none-but (nextOf (drop (run .taken) input)) refl (λ one. omega (arith, ap length (d .text), lines-short p first (d .done)))
+  no-more room wide few (no-index l) = none-but (nextOf (drop (run .taken) input)) refl (λ one. omega (arith, d .index))
+
+-- with 128 bytes of text area for each record, and an index for each, all records are done
+pub all-fit : (r : Register) (p : Park) (first : ℕ) (input : List ℕ) (room : ℕ) → Means r p → Bytes input
+    → 128 * length (parts input .records) ≤ room → first + length (parts input .records) ≤ lastIndex
+    → NoRecord (nextOf (drop (delivered r first input room .taken) input))
+all-fit r p first input room h bytes wide few =
+    no-more p first input (delivered r first input room) (delivered-means r p first input room h bytes) room wide few (delivered-stops r first input room)
+
+-- ---- A delivery that stops because its text area is full has done one record at least
+
+taken-by : (input : List ℕ) (run : Run) (x : Next) (more : Run → Run) → ((now : Run) → now .taken ≤ more now .taken) → run .taken ≤ onward input run x more .taken
+unfolding onward
+taken-by input run (Record address end) more grows = let g = grows (D.after run end (turnOf (run .register) address (frameAt input (run .taken) end))) in omega arith
+taken-by input run Need more grows = omega arith
+taken-by input run Cut more grows = omega arith
+
+runs-take : (input : List ℕ) (room most : ℕ) (run : Run) → run .taken ≤ runs most input room run .taken
+unfolding runs
+runs-take input room zero run = omega arith
+runs-take input room (suc most) run =
+    by (λ (now : Run). run .taken ≤ now .taken) (full room run) (λ t. omega arith)
+    (λ t. taken-by input run (nextOf (drop (run .taken) input)) (runs most input room) (runs-take input room most))
+
+pub goes-on : (r : Register) (first : ℕ) (input : List ℕ) (room address end : ℕ) → nextOf input ≡ Record address end → 128 ≤ room → first < lastIndex
+    → 3 ≤ delivered r first input room .taken
+unfolding runs onward if_then_else_
+goes-on r first [] room address end next wide few = let i = record-inside [] address end next in absurd (omega arith)
+goes-on r first (x ∷ s) room address end next wide few =
+    let i = record-inside (x ∷ s) address end next in
+    let g = runs-take (x ∷ s) room (length s) (D.after (begun r first) end (turnOf r address (frameAt (x ∷ s) 0 end))) in
+    rw (lt-leb lastIndex first few, le-ltb (room - 0) 128 (omega arith), next) (omega arith)

@@ -15,6 +15,7 @@ use Rattle.shard.specs.View as SV
 use Rattle.shard.specs.View.{viewShard}
 use Rattle.records.specs.declared.Next.{Next}
 use Rattle.records.specs.declared.Next.the-variants.{Record, Need, Cut}
+use Rattle.records.specs.Records.{nextOf}
 use Rattle.delivery.specs.declared.Register.{Register}
 use Rattle.delivery.specs.Register as D
 use Rattle.delivery.specs.Register.{boardAtStart, shardAtStart}
@@ -81,3 +82,13 @@ pub record Done (p : Park) (first : ℕ) (input : List ℕ) (run : Run) : Type 0
   pub text : run .text ≡ dLines p first done
   pub register : Means (run .register) (after p done)
   pub index : run .index ≡ first + length done
+
+-- the last index that 64 bits hold; no record gets it
+abbrev pub lastIndex : ℕ
+lastIndex = 18446744073709551615
+
+-- why a delivery stops: no whole record is left, the text area has less than 128 bytes left, or no index is left
+pub data Stopped (input : List ℕ) (room : ℕ) (run : Run) : Type 0 where
+  no-record : NoRecord (nextOf (drop (run .taken) input)) → Stopped input room run
+  no-room : room < length (run .text) + 128 → Stopped input room run
+  no-index : lastIndex ≤ run .index → Stopped input room run
