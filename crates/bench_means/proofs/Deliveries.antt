@@ -107,6 +107,7 @@ module _ (p : Park) (first : ℕ) (input : List ℕ) (bytes : Bytes input) where
             ∙ sym (lines-both p first (d .done) (r ∷ []));
         register = rw (after-both p (d .done) (r ∷ [])) (m .register);
         index = omega (arith, d .index);
+        fewer = omega (arith, d .fewer, i .0);
       }
 
   more-by : (run : Run) → Done p first input run → (x : Next) → nextOf (drop (run .taken) input) ≡ x → (more : Run → Run)
@@ -127,7 +128,7 @@ module _ (p : Park) (first : ℕ) (input : List ℕ) (bytes : Bytes input) where
 pub delivered-means : (r : Register) (p : Park) (first : ℕ) (input : List ℕ) (room : ℕ) → Means r p → Bytes input → Done p first input (delivered r first input room)
 delivered-means r p first input room h bytes =
     runs-done p first input bytes (length input) room (begun r first)
-    (record { done = []; inside = omega arith; front = λ later. unfold before in refl; text = refl; register = h; index = omega arith })
+    (record { done = []; inside = omega arith; front = λ later. unfold before in refl; text = refl; register = h; index = omega arith; fewer = omega arith })
 
 -- ---- Where it stops
 

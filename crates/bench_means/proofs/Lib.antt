@@ -3,3 +3,4 @@ pub mod Turns
 pub mod Starts
 pub mod Parts
 pub mod Deliveries
+pub mod Pieces

@@ -115,7 +115,7 @@ cutBefore (x ∷ left) = cutLine
 
 -- for the bytes behind n and m, the next record's index given
 unfoldable pub lines : Park → (index : ℕ) → List ℕ → List ℕ
-lines p index s = dLines p index (parts s .records) ++ cutBefore (parts s .left) ++ lLines (after p (parts s .records))
+lines p index s = dLines p index (parts s .records) ++ (cutBefore (parts s .left) ++ lLines (after p (parts s .records)))
 
 -- "Input: n (1 byte), m (1), then records"; "Bad or missing n or m: only `setup 11`."
 unfoldable pub transcript : List ℕ → List ℕ

@@ -82,6 +82,7 @@ pub record Done (p : Park) (first : ℕ) (input : List ℕ) (run : Run) : Type 0
   pub text : run .text ≡ dLines p first done
   pub register : Means (run .register) (after p done)
   pub index : run .index ≡ first + length done
+  pub fewer : length done ≤ run .taken
 
 -- the last index that 64 bits hold; no record gets it
 abbrev pub lastIndex : ℕ

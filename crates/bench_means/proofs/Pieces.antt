@@ -1,0 +1,89 @@
+-- The transcript does not depend on how the input is cut into pieces: what a delivery did of some bytes, and the rest put before what follows, give the
+-- lines of all the bytes at once. So the program writes the transcript of what it reads, whatever each read gives.
+-- Assumes nothing.
+use mathlib.Core.Bool.{Bool, true, false}
+use mathlib.Core.List.{List, [], _∷_, _++_, map, append-assoc, append-nil}
+use mathlib.Core.Path.{_≡_, refl, ap, sym, _∙_}
+use Prim.Native.Nat.{ℕ, zero, suc, _+_, _*_, _≤_, _<_}
+use native.Mathlib.Omega.{arith}
+use lib.Dec.{T}
+use lib.ListN.{length, take, drop, getD, length-append, length-drop}
+use Rattle.rules.specs.Lists.{if_then_else_}
+use Rattle.rules.specs.Board as B
+use Rattle.rules.specs.Board.{isEXE}
+use Rattle.rules.proofs.Lists.{by}
+use Rattle.frames.specs.View.{Bytes}
+use Rattle.lines.specs.Text.{headerLine, lLine, cutLine, setupLine}
+use Rattle.entry.specs.declared.Entry.{Entry}
+use Rattle.entry.specs.View.{writeOf, viewEntry}
+use Rattle.board.specs.declared.Board.{Board}
+use Rattle.board_means.specs.View.{viewBoard, viewLog}
+use Rattle.records.specs.declared.Next.{Next}
+use Rattle.records.specs.declared.Next.the-variants.{Record, Need, Cut}
+use Rattle.records.specs.Records.{usableOf, nextOf}
+use Rattle.delivery.specs.declared.Register.{Register}
+use Rattle.delivery.specs.Register.{boardAtStart, registerOf}
+use Rattle.delivery.specs.Delivery.{Run, delivered}
+use Rattle.delivery.specs.Logs.{logText, logLines}
+use Rattle.bench_means.specs.Transcript.{Park, Addressed, Parts, parts, after, dLines, entryLines, boardLines, lLines, cutBefore, fresh, lines, transcript}
+use Rattle.bench_means.specs.View.{Means, NoRecord, before, Done}
+use Rattle.bench_means.specs.Program.{Piece, bytesOf, room, putLogs, Between, turnEnd, turnsOf, written}
+use Rattle.bench_means.proofs.Starts.{start-means}
+use Rattle.bench_means.proofs.Parts.{cut-firm, parts-none}
+use Rattle.bench_means.proofs.Deliveries.{bytes-drop, after-both, lines-both, delivered-means, goes-on}
+
+-- ---- Pieces
+
+-- PIECES: the lines of some bytes and of what follows are the lines that a delivery of the bytes gave, and those of the bytes that it left and of what follows
+pub pieces : (p : Park) (index : ℕ) (input : List ℕ) (run : Run) (d : Done p index input run) (later : List ℕ)
+    → lines p index (input ++ later) ≡ run .text ++ lines (after p (d .done)) (run .index) (drop (run .taken) input ++ later)
+unfolding lines before
+pieces p index input run d later =
+    let x : Parts = parts (drop (run .taken) input ++ later) in
+    let tail : List ℕ = cutBefore (x .left) ++ lLines (after (after p (d .done)) (x .records)) in
+    ap (λ (y : Parts). dLines p index (y .records) ++ (cutBefore (y .left) ++ lLines (after p (y .records)))) (d .front later)
+    ∙ (λ i. lines-both p index (d .done) (x .records) i ++ (cutBefore (x .left) ++ lLines (after-both p (d .done) (x .records) i)))
+    ∙ append-assoc (dLines p index (d .done)) (dLines (after p (d .done)) (index + length (d .done)) (x .records)) tail
+    ∙ (λ i. sym (d .text) i ++ (dLines (after p (d .done)) (sym (d .index) i) (x .records) ++ tail))
+
+-- ---- The ends
+
+no-record-more : (p : Park) (index : ℕ) (s : List ℕ) → NoRecord (nextOf s) → lines p index s ≡ cutBefore s ++ lLines p
+unfolding lines
+no-record-more p index s none = ap (λ (y : Parts). dLines p index (y .records) ++ (cutBefore (y .left) ++ lLines (after p (y .records)))) (parts-none s none)
+
+cut-some : (s : List ℕ) → nextOf s ≡ Cut → cutBefore s ≡ cutLine
+unfolding nextOf if_then_else_
+cut-some [] e = let z : _≡_ {A = ℕ} 0 1 = cc in absurd (omega arith)
+cut-some (x ∷ s) e = refl
+
+cut-here : (p : Park) (index : ℕ) (s later : List ℕ) → nextOf s ≡ Cut → lines p index (s ++ later) ≡ cutLine ++ lLines p
+cut-here p index s later e =
+    let f = cut-firm s later e in
+    no-record-more p index (s ++ later) (rw f tt) ∙ ap (λ (t : List ℕ). t ++ lLines p) (cut-some (s ++ later) f)
+
+-- ---- The logs
+
+entries-lines : (board ind m : ℕ) (es : List Entry) → logText board ind es ≡ entryLines board ind (viewLog m es)
+unfolding viewEntry writeOf
+entries-lines board ind m [] = refl
+entries-lines board ind m (e ∷ es) =
+    λ i. lLine board ind (e .client) (e .number) (exe (e .exe) i) ++ entries-lines board (ind + 1) m es i
+  where
+    exe : (t : Bool) → t ≡ isEXE (if t then B.EXE else B.PRE)
+    exe true = unfold if_then_else_ in refl
+    exe false = unfold if_then_else_ in refl
+
+board-lines : (board : ℕ) (b : Board) → logLines board b room ≡ entryLines board 0 (viewBoard b .log)
+unfolding logLines viewBoard if_then_else_
+board-lines board b = entries-lines board 0 (b .m) (take (b .len) (b .log))
+
+logs-mean : (r : Register) (p : Park) → Means r p → (place more : ℕ) → place + more ≤ 8 → putLogs r place more ≡ boardLines p (place + 1) more
+logs-mean r p h place zero l = refl
+logs-mean r p h place (suc more) l =
+    let b : Board = getD (r .boards) place (boardAtStart 0 0 0) in
+    (λ i. board-lines (place + 1) b i ++ logs-mean r p h (place + 1) more (omega arith) i)
+    ∙ ap (λ (x : B.Board). entryLines (place + 1) 0 (x .log) ++ boardLines p (place + 1 + 1) more) (h .boards .each place (omega arith) .view)
+
+pub put-logs : (r : Register) (p : Park) → Means r p → putLogs r 0 (r .n) ≡ lLines p
+put-logs r p h = ap (putLogs r 0) (h .n) ∙ logs-mean r p h 0 (p .n) (omega (arith, h .few))
