@@ -4,10 +4,11 @@
 use mathlib.Core.Bool.{Bool, true, false}
 use mathlib.Core.List.{List, [], _∷_, _++_, map, append-assoc, append-nil}
 use mathlib.Core.Path.{_≡_, refl, ap, sym, _∙_}
-use Prim.Native.Nat.{ℕ, zero, suc, _+_, _*_, _≤_, _<_}
+use Prim.Native.Nat.{ℕ, zero, suc, _+_, _*_, _-_, _≤_, _<_}
 use native.Mathlib.Omega.{arith}
 use lib.Dec.{T}
 use lib.ListN.{length, take, drop, getD, length-append, length-drop}
+use lib.Seq.{drop-append-le}
 use Rattle.rules.specs.Lists.{if_then_else_}
 use Rattle.rules.specs.Board as B
 use Rattle.rules.specs.Board.{isEXE}
@@ -26,7 +27,7 @@ use Rattle.delivery.specs.Register.{boardAtStart, registerOf}
 use Rattle.delivery.specs.Delivery.{Run, delivered}
 use Rattle.delivery.specs.Logs.{logText, logLines}
 use Rattle.bench_means.specs.Transcript.{Park, Addressed, Parts, parts, after, dLines, entryLines, boardLines, lLines, cutBefore, fresh, lines, transcript}
-use Rattle.bench_means.specs.View.{Means, NoRecord, before, Done}
+use Rattle.bench_means.specs.View.{Means, NoRecord, before, Done, lastIndex}
 use Rattle.bench_means.specs.Program.{Piece, bytesOf, room, putLogs, Between, turnEnd, turnsOf, written}
 use Rattle.bench_means.proofs.Starts.{start-means}
 use Rattle.bench_means.proofs.Parts.{cut-firm, parts-none}
@@ -87,3 +88,69 @@ logs-mean r p h place (suc more) l =
 
 pub put-logs : (r : Register) (p : Park) → Means r p → putLogs r 0 (r .n) ≡ lLines p
 put-logs r p h = ap (putLogs r 0) (h .n) ∙ logs-mean r p h 0 (p .n) (omega (arith, h .few))
+
+-- ---- The program
+
+-- the bytes before others
+bytes-front : (s t : List ℕ) → Bytes (s ++ t) → Bytes s
+bytes-front [] t b i = omega arith
+bytes-front (x ∷ s) t b zero = b zero
+bytes-front (x ∷ s) t b (suc i) = bytes-front s t (λ j. b (suc j)) i
+
+-- a turn's end writes the lines of the bytes that are left and of the pieces to come, if the turns behind it do
+end-writes :
+    (run : Run) (left : List ℕ) (x : Next) → nextOf left ≡ x → (p : Park) → Means (run .register) p → (xs : List Piece) (more : Between → List Piece → List ℕ) →
+    ((address end : ℕ) → x ≡ Record address end → more (record { register = run .register; index = run .index; bytes = left }) xs ≡ lines p (run .index) (left ++ bytesOf xs)) →
+    ((y : Piece) (ys : List Piece) → xs ≡ y ∷ ys →
+    more (record { register = run .register; index = run .index; bytes = left ++ y.first ∷ y.others }) ys ≡ lines p (run .index) (left ++ y.first ∷ y.others ++ bytesOf ys)) →
+    turnEnd run left x xs more ≡ lines p (run .index) (left ++ bytesOf xs)
+unfolding turnEnd
+end-writes run left (Record address end) e p h xs more again reading = again address end refl
+end-writes run left Need e p h [] more again reading =
+    ap (λ (t : List ℕ). cutBefore left ++ t) (put-logs (run .register) p h)
+    ∙ sym (no-record-more p (run .index) left (rw e tt))
+    ∙ ap (lines p (run .index)) (sym (append-nil left))
+end-writes run left Need e p h (y ∷ ys) more again reading =
+    reading y ys refl ∙ ap (lines p (run .index)) (append-assoc left (y .first ∷ y .others) (bytesOf ys))
+end-writes run left Cut e p h xs more again reading =
+    ap (λ (t : List ℕ). cutLine ++ t) (put-logs (run .register) p h) ∙ sym (cut-here p (run .index) left (bytesOf xs) e)
+
+-- a delivery that leaves a record at the front has taken one
+some-taken : (r : Register) (index : ℕ) (s : List ℕ) → index < lastIndex → (address end : ℕ) → nextOf (drop (delivered r index s room .taken) s) ≡ Record address end
+    → 1 ≤ delivered r index s room .taken
+some-taken r index s few address end e = by-count (delivered r index s room .taken) refl
+  where
+    by-count : (k : ℕ) → delivered r index s room .taken ≡ k → 1 ≤ delivered r index s room .taken
+    by-count zero z =
+        let f : nextOf s ≡ Record address end = rw z at e in
+        absurd (omega (arith, goes-on r index s room address end f (omega arith) few))
+    by-count (suc k) z = omega arith
+
+turns-write :
+    (most : ℕ) (b : Between) (p : Park) (xs : List Piece) → Means (b .register) p → Bytes (b .bytes ++ bytesOf xs) →
+    length (b .bytes) + 2 * length (bytesOf xs) < most → b .index + length (b .bytes) + length (bytesOf xs) < lastIndex →
+    turnsOf most b xs ≡ lines p (b .index) (b .bytes ++ bytesOf xs)
+unfolding turnsOf
+turns-write zero b p xs h bytes turns few = absurd (omega arith)
+turns-write (suc most) b p xs h bytes turns few =
+    let run : Run = delivered (b .register) (b .index) (b .bytes) room in
+    let left : List ℕ = drop (run .taken) (b .bytes) in
+    let d : Done p (b .index) (b .bytes) run = delivered-means (b .register) p (b .index) (b .bytes) room h (bytes-front (b .bytes) (bytesOf xs) bytes) in
+    let l : length left ≡ length (b .bytes) - run .taken = length-drop (run .taken) (b .bytes) in
+    let here : Bytes (left ++ bytesOf xs) =
+    rw (drop-append-le (run .taken) (b .bytes) (bytesOf xs) (d .inside)) at (bytes-drop (run .taken) (b .bytes ++ bytesOf xs) bytes) in
+    ap (λ (t : List ℕ). run .text ++ t)
+    (end-writes run left (nextOf left) refl (after p (d .done)) (d .register) xs (turnsOf most)
+    (λ address end e.
+    let some = some-taken (b .register) (b .index) (b .bytes) (omega arith) address end e in
+    turns-write most (record { register = run .register; index = run .index; bytes = left }) (after p (d .done)) xs (d .register) here
+    (omega (arith, d .inside)) (omega (arith, d .index, d .fewer, d .inside)))
+    (λ y ys e.
+    let piece : List ℕ = y .first ∷ y .others in
+    let n = length-append left piece in
+    let c : length (bytesOf xs) ≡ suc (length (y .others)) + length (bytesOf ys) = rw e (omega (arith, length-append piece (bytesOf ys))) in
+    let there : Bytes (left ++ piece ++ bytesOf ys) = rw (append-assoc left piece (bytesOf ys)) (rw e at here) in
+    turns-write most (record { register = run .register; index = run .index; bytes = left ++ piece }) (after p (d .done)) ys (d .register)
+    there
+    (omega (arith, d .inside)) (omega (arith, d .index, d .fewer, d .inside))))
+    ∙ sym (pieces p (b .index) (b .bytes) run d (bytesOf xs))
