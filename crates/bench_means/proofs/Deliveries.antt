@@ -1,14 +1,12 @@
 -- What `deliver` gives is what the rules say of the records that stand at the front of its bytes: their d lines, and the park after them, whatever follows
 -- the bytes. And where it stops: no whole record is left, or the text area has less than 128 bytes left, or no index is.
 -- Assumes nothing.
-use mathlib.Core.Bool.{Bool, true, false, not, _||_}
 use mathlib.Core.List.{List, [], _∷_, _++_, append-assoc, append-nil}
-use mathlib.Core.Logic.{_⊎_, inl, inr}
 use mathlib.Core.Path.{_≡_, refl, ap, sym, _∙_}
 use Prim.Native.Nat.{ℕ, zero, suc, _+_, _*_, _-_, _≤_, _<_}
 use native.Mathlib.Omega.{arith}
-use lib.Dec.{T, leb, ltb, leb→le, ltb→lt, nltb→le, nleb→lt}
-use lib.ListN.{length, take, drop, getD, length-append, length-drop}
+use lib.Dec.{T, leb, ltb, leb→le, ltb→lt}
+use lib.ListN.{length, take, drop, length-append, length-drop}
 use lib.Seq.{take-append-le, drop-append-le, drop-drop, getD-drop}
 use borrow.Author.Tests.{lt-leb, le-ltb}
 use Rattle.rules.specs.Lists.{if_then_else_}
@@ -24,8 +22,8 @@ use Rattle.delivery.specs.declared.Register.{Register}
 use Rattle.delivery.specs.Register.{turnOf}
 use Rattle.delivery.specs.Delivery as D
 use Rattle.delivery.specs.Delivery.{Run, frameAt, onward, full, runs, begun, delivered}
-use Rattle.bench_means.specs.Transcript.{Park, Addressed, Parts, parts, Turn, turn, after, dLines}
-use Rattle.bench_means.specs.View.{Means, TurnMeans, NoRecord, before, Done, lastIndex, Stopped, no-record, no-room, no-index}
+use Rattle.bench_means.specs.Transcript.{Park, Addressed, Parts, parts, turn, after, dLines}
+use Rattle.bench_means.specs.View.{Means, NoRecord, before, registerAfter, Done, lastIndex, Stopped, no-record, no-room, no-index}
 use Rattle.bench_means.proofs.Turns.{turn-means}
 use Rattle.bench_means.proofs.Parts.{record-firm, firstOf, parts-record, parts-none}
 
@@ -40,11 +38,21 @@ bytes-take (suc n) (x ∷ s) b (suc i) = bytes-take n s (λ j. b (suc j)) i
 pub bytes-drop : (n : ℕ) (s : List ℕ) → Bytes s → Bytes (drop n s)
 bytes-drop n s b i = rw (getD-drop n s i 0) (b (n + i))
 
+-- those before others
+pub bytes-front : (s t : List ℕ) → Bytes (s ++ t) → Bytes s
+bytes-front [] t b i = omega arith
+bytes-front (x ∷ s) t b zero = b zero
+bytes-front (x ∷ s) t b (suc i) = bytes-front s t (λ j. b (suc j)) i
+
 -- ---- Some records and then others
 
 pub after-both : (p : Park) (rs qs : List Addressed) → after p (rs ++ qs) ≡ after (after p rs) qs
 after-both p [] qs = refl
 after-both p (r ∷ rs) qs = after-both (turn p r .park) rs qs
+
+pub register-both : (r : Register) (xs ys : List Addressed) → registerAfter r (xs ++ ys) ≡ registerAfter (registerAfter r xs) ys
+register-both r [] ys = refl
+register-both r (x ∷ xs) ys = register-both (turnOf r (x .address) (x .frame) .register) xs ys
 
 pub lines-both : (p : Park) (index : ℕ) (rs qs : List Addressed) → dLines p index (rs ++ qs) ≡ dLines p index rs ++ dLines (after p rs) (index + length rs) qs
 lines-both p index [] qs = let e : index ≡ index + 0 = omega arith in ap (λ (k : ℕ). dLines p k qs) e
@@ -84,51 +92,54 @@ module _ (input : List ℕ) (taken end address : ℕ) (next : nextOf (drop taken
       ∙ ap (λ (f : List ℕ). before (record { address = address; frame = f } ∷ []) (parts (drop end (drop taken input ++ later)))) (frame-there later)
       ∙ ap (λ (t : List ℕ). before (one ∷ []) (parts t)) (drop-append-le end (drop taken input) later (i .1) ∙ ap (λ (t : List ℕ). t ++ later) (drop-drop end taken input))
 
-module _ (p : Park) (first : ℕ) (input : List ℕ) (bytes : Bytes input) where
-  one-more : (run : Run) → Done p first input run → (address end : ℕ) → nextOf (drop (run .taken) input) ≡ Record address end
-      → Done p first input (D.after run end (turnOf (run .register) address (frameAt input (run .taken) end)))
+module _ (r : Register) (p : Park) (first : ℕ) (input : List ℕ) (bytes : Bytes input) where
+  one-more : (run : Run) → Done r p first input run → (address end : ℕ) → nextOf (drop (run .taken) input) ≡ Record address end
+      → Done r p first input (D.after run end (turnOf (run .register) address (frameAt input (run .taken) end)))
   unfolding one
   one-more run d address end next =
       let i = record-inside (drop (run .taken) input) address end next in
       let l = length-drop (run .taken) input in
-      let r : Addressed = one input (run .taken) end address next in
-      let m = turn-means (run .register) (after p (d .done)) (d .register) (frameAt input (run .taken) end)
+      let x : Addressed = one input (run .taken) end address next in
+      let m = turn-means (run .register) (after p (d .done)) (d .means) (frameAt input (run .taken) end)
       (bytes-take (run .taken + end - (run .taken + 1)) (drop (run .taken + 1) input) (bytes-drop (run .taken + 1) input bytes)) address in
-      let n = length-append (d .done) (r ∷ []) in
+      let n = length-append (d .done) (x ∷ []) in
       record {
-        done = d .done ++ r ∷ [];
+        done = d .done ++ x ∷ [];
         inside = omega (arith, d .inside, i .1);
         front = λ later.
-        d .front later ∙ ap (before (d .done)) (one-there input (run .taken) end address next later)
-        ∙ before-both (d .done) (r ∷ []) (parts (drop (run .taken + end) input ++ later));
+            d .front later ∙ ap (before (d .done)) (one-there input (run .taken) end address next later)
+            ∙ before-both (d .done) (x ∷ []) (parts (drop (run .taken + end) input ++ later));
         text =
             (λ j. d .text j ++ dLine (d .index j) (m .answer j) (m .frames j))
-            ∙ ap (λ (t : List ℕ). dLines p first (d .done) ++ t) (sym (append-nil (dLine (first + length (d .done)) (turn (after p (d .done)) r .answer) (turn (after p (d .done)) r .frames))))
-            ∙ sym (lines-both p first (d .done) (r ∷ []));
-        register = rw (after-both p (d .done) (r ∷ [])) (m .register);
+            ∙ ap (λ (t : List ℕ). dLines p first (d .done) ++ t) (sym (append-nil (dLine (first + length (d .done)) (turn (after p (d .done)) x .answer) (turn (after p (d .done)) x .frames))))
+            ∙ sym (lines-both p first (d .done) (x ∷ []));
+        register =
+            ap (λ (now : Register). turnOf now address (frameAt input (run .taken) end) .register) (d .register)
+            ∙ sym (register-both r (d .done) (x ∷ []));
+        means = rw (after-both p (d .done) (x ∷ [])) (m .register);
         index = omega (arith, d .index);
         fewer = omega (arith, d .fewer, i .0);
       }
 
-  more-by : (run : Run) → Done p first input run → (x : Next) → nextOf (drop (run .taken) input) ≡ x → (more : Run → Run)
-      → ((now : Run) → Done p first input now → Done p first input (more now)) → Done p first input (onward input run x more)
+  more-by : (run : Run) → Done r p first input run → (x : Next) → nextOf (drop (run .taken) input) ≡ x → (more : Run → Run)
+      → ((now : Run) → Done r p first input now → Done r p first input (more now)) → Done r p first input (onward input run x more)
   unfolding onward
   more-by run d (Record address end) e more keeps = keeps _ (one-more run d address end e)
   more-by run d Need e more keeps = d
   more-by run d Cut e more keeps = d
 
-  runs-done : (most room : ℕ) (run : Run) → Done p first input run → Done p first input (runs most input room run)
+  runs-done : (most room : ℕ) (run : Run) → Done r p first input run → Done r p first input (runs most input room run)
   unfolding runs
   runs-done zero room run d = d
   runs-done (suc most) room run d =
-      by (Done p first input) (full room run) (λ t. d)
+      by (Done r p first input) (full room run) (λ t. d)
       (λ t. more-by run d (nextOf (drop (run .taken) input)) refl (runs most input room) (λ now. runs-done most room now))
 
 -- what a delivery gives means what the rules say of the records that it did
-pub delivered-means : (r : Register) (p : Park) (first : ℕ) (input : List ℕ) (room : ℕ) → Means r p → Bytes input → Done p first input (delivered r first input room)
+pub delivered-means : (r : Register) (p : Park) (first : ℕ) (input : List ℕ) (room : ℕ) → Means r p → Bytes input → Done r p first input (delivered r first input room)
 delivered-means r p first input room h bytes =
-    runs-done p first input bytes (length input) room (begun r first)
-    (record { done = []; inside = omega arith; front = λ later. unfold before in refl; text = refl; register = h; index = omega arith; fewer = omega arith })
+    runs-done r p first input bytes (length input) room (begun r first)
+    (record { done = []; inside = omega arith; front = λ later. unfold before in refl; text = refl; register = refl; means = h; index = omega arith; fewer = omega arith })
 
 -- ---- Where it stops
 
@@ -161,10 +172,10 @@ pub delivered-stops : (r : Register) (first : ℕ) (input : List ℕ) (room : �
 delivered-stops r first input room = runs-stop input room (length input) (begun r first) (omega arith) (omega arith)
 
 -- where no whole record is left, all of them were done
-pub all-done : (p : Park) (first : ℕ) (input : List ℕ) (run : Run) (d : Done p first input run) → NoRecord (nextOf (drop (run .taken) input))
+pub all-done : (r : Register) (p : Park) (first : ℕ) (input : List ℕ) (run : Run) (d : Done r p first input run) → NoRecord (nextOf (drop (run .taken) input))
     → parts input ≡ record { records = d .done; left = drop (run .taken) input }
 unfolding before
-all-done p first input run d none =
+all-done r p first input run d none =
     ap parts (sym (append-nil input))
     ∙ d .front []
     ∙ ap (λ (t : List ℕ). before (d .done) (parts t)) (append-nil (drop (run .taken) input))
@@ -179,7 +190,7 @@ lines-short p index (r ∷ rs) =
     let line : List ℕ = dLine index (turn p r .answer) (turn p r .frames) in
     omega (arith, length-append line (dLines (turn p r .park) (index + 1) rs), d-short index (turn p r .answer) (turn p r .frames), lines-short (turn p r .park) (index + 1) rs)
 
-module _ (p : Park) (first : ℕ) (input : List ℕ) (run : Run) (d : Done p first input run) where
+module _ (r : Register) (p : Park) (first : ℕ) (input : List ℕ) (run : Run) (d : Done r p first input run) where
   -- a record that is left is one that was not done
   one-left : (address end : ℕ) → nextOf (drop (run .taken) input) ≡ Record address end → length (d .done) + 1 ≤ length (parts input .records)
   unfolding before
@@ -207,7 +218,7 @@ pub all-fit : (r : Register) (p : Park) (first : ℕ) (input : List ℕ) (room :
     → 128 * length (parts input .records) ≤ room → first + length (parts input .records) ≤ lastIndex
     → NoRecord (nextOf (drop (delivered r first input room .taken) input))
 all-fit r p first input room h bytes wide few =
-    no-more p first input (delivered r first input room) (delivered-means r p first input room h bytes) room wide few (delivered-stops r first input room)
+    no-more r p first input (delivered r first input room) (delivered-means r p first input room h bytes) room wide few (delivered-stops r first input room)
 
 -- ---- A delivery that stops because its text area is full has done one record at least
 

@@ -4,3 +4,4 @@ pub mod Starts
 pub mod Parts
 pub mod Deliveries
 pub mod Pieces
+pub mod Written

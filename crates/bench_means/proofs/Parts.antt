@@ -1,13 +1,11 @@
 -- Bytes taken apart into records: nothing is skipped and no whole record is left; a record that stands at the front stands there whatever follows.
 -- Assumes nothing.
-use mathlib.Core.Bool.{not}
 use mathlib.Core.List.{List, [], _∷_, _++_, append-assoc}
 use mathlib.Core.Path.{_≡_, refl, ap, sym, _∙_}
 use Prim.Native.Nat.{ℕ, zero, suc, _+_, _-_, _≤_, _<_}
 use native.Mathlib.Omega.{arith}
-use lib.Dec.{T, ltb, ltb→lt, nltb→le}
-use lib.ListN.{length, take, drop, getD, length-append, length-drop, List·getD-append, take-append-drop}
-use lib.Seq.{take-append-le, drop-append-le, drop-drop, drop-cons}
+use lib.Dec.{ltb, ltb→lt, nltb→le}
+use lib.ListN.{length, take, drop, length-append, length-drop, List·getD-append, take-append-drop}
 use Rattle.rules.specs.Lists.{if_then_else_}
 use Rattle.rules.specs.Frames.{byteAt, twoAt, backToBack}
 use Rattle.rules.proofs.Lists.{by}
@@ -63,6 +61,16 @@ record-firm s later address end e = let f : Firm s (Record address end) = rw e a
 
 pub cut-firm : (s later : List ℕ) → nextOf s ≡ Cut → nextOf (s ++ later) ≡ Cut
 cut-firm s later e = let f : Firm s Cut = rw e at (firm s (nextOf s) (stands s)) in f later
+
+-- less than a record has at most 38 bytes, so an input area of 64 KB has room for more behind it
+few-by : (s : List ℕ) (x : Next) → Stands s x → x ≡ Need → length s < 39
+few-by s Need (short a) e = omega arith
+few-by s Need (part a b c) e = omega arith
+few-by s Cut (over a b) e = let z : _≡_ {A = ℕ} 0 1 = cc in absurd (omega arith)
+few-by s (Record _ _) (whole a b c) e = let z : _≡_ {A = ℕ} 0 1 = cc in absurd (omega arith)
+
+pub need-few : (s : List ℕ) → nextOf s ≡ Need → length s < 39
+need-few s e = few-by s (nextOf s) (stands s) e
 
 -- ---- Record by record
 

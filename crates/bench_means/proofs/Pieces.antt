@@ -1,45 +1,27 @@
 -- The transcript does not depend on how the input is cut into pieces: what a delivery did of some bytes, and the rest put before what follows, give the
 -- lines of all the bytes at once. So the program writes the transcript of what it reads, whatever each read gives.
 -- Assumes nothing.
-use mathlib.Core.Bool.{Bool, true, false}
-use mathlib.Core.List.{List, [], _∷_, _++_, map, append-assoc, append-nil}
-use mathlib.Core.Path.{_≡_, refl, ap, sym, _∙_}
-use Prim.Native.Nat.{ℕ, zero, suc, _+_, _*_, _-_, _≤_, _<_}
+use mathlib.Core.List.{List, _++_, append-assoc}
+use mathlib.Core.Path.{_≡_, ap, sym, _∙_}
+use Prim.Native.Nat.{ℕ, _+_}
 use native.Mathlib.Omega.{arith}
-use lib.Dec.{T}
-use lib.ListN.{length, take, drop, getD, length-append, length-drop}
+use lib.ListN.{length, drop, length-append}
 use lib.Seq.{drop-append-le}
-use Rattle.rules.specs.Lists.{if_then_else_}
-use Rattle.rules.specs.Board as B
-use Rattle.rules.specs.Board.{isEXE}
-use Rattle.rules.proofs.Lists.{by}
 use Rattle.frames.specs.View.{Bytes}
-use Rattle.lines.specs.Text.{headerLine, lLine, cutLine, setupLine}
-use Rattle.entry.specs.declared.Entry.{Entry}
-use Rattle.entry.specs.View.{writeOf, viewEntry}
-use Rattle.board.specs.declared.Board.{Board}
-use Rattle.board_means.specs.View.{viewBoard, viewLog}
-use Rattle.records.specs.declared.Next.{Next}
-use Rattle.records.specs.declared.Next.the-variants.{Record, Need, Cut}
-use Rattle.records.specs.Records.{usableOf, nextOf}
+use Rattle.records.specs.Records.{nextOf}
 use Rattle.delivery.specs.declared.Register.{Register}
-use Rattle.delivery.specs.Register.{boardAtStart, registerOf}
 use Rattle.delivery.specs.Delivery.{Run, delivered}
-use Rattle.delivery.specs.Logs.{logText, logLines}
-use Rattle.bench_means.specs.Transcript.{Park, Addressed, Parts, parts, after, dLines, entryLines, boardLines, lLines, cutBefore, fresh, lines, transcript}
-use Rattle.bench_means.specs.View.{Means, NoRecord, before, Done, lastIndex}
-use Rattle.bench_means.specs.Program.{Piece, bytesOf, room, putLogs, Between, turnEnd, turnsOf, written}
-use Rattle.bench_means.proofs.Starts.{start-means}
-use Rattle.bench_means.proofs.Parts.{cut-firm, parts-none}
-use Rattle.bench_means.proofs.Deliveries.{bytes-drop, after-both, lines-both, delivered-means, goes-on}
+use Rattle.bench_means.specs.Transcript.{Park, Parts, parts, after, dLines, lLines, cutBefore, lines}
+use Rattle.bench_means.specs.View.{Means, NoRecord, before, registerAfter, Done, Same}
+use Rattle.bench_means.proofs.Deliveries.{bytes-drop, bytes-front, after-both, register-both, lines-both, delivered-means, all-done}
 
 -- ---- Pieces
 
 -- PIECES: the lines of some bytes and of what follows are the lines that a delivery of the bytes gave, and those of the bytes that it left and of what follows
-pub pieces : (p : Park) (index : ℕ) (input : List ℕ) (run : Run) (d : Done p index input run) (later : List ℕ)
+pub pieces : (r : Register) (p : Park) (index : ℕ) (input : List ℕ) (run : Run) (d : Done r p index input run) (later : List ℕ)
     → lines p index (input ++ later) ≡ run .text ++ lines (after p (d .done)) (run .index) (drop (run .taken) input ++ later)
 unfolding lines before
-pieces p index input run d later =
+pieces r p index input run d later =
     let x : Parts = parts (drop (run .taken) input ++ later) in
     let tail : List ℕ = cutBefore (x .left) ++ lLines (after (after p (d .done)) (x .records)) in
     ap (λ (y : Parts). dLines p index (y .records) ++ (cutBefore (y .left) ++ lLines (after p (y .records)))) (d .front later)
@@ -47,110 +29,43 @@ pieces p index input run d later =
     ∙ append-assoc (dLines p index (d .done)) (dLines (after p (d .done)) (index + length (d .done)) (x .records)) tail
     ∙ (λ i. sym (d .text) i ++ (dLines (after p (d .done)) (sym (d .index) i) (x .records) ++ tail))
 
--- ---- The ends
+-- AT ONCE: some bytes delivered, and what is left of them put before others and delivered, give what all the bytes give, delivered at once: register, lines,
+-- index and rest. Where all their records find room (`all-fit`).
+module _ (r : Register) (p : Park) (first : ℕ) (a b : List ℕ) (h : Means r p) (bytes : Bytes (a ++ b)) (room₁ room₂ room : ℕ) where
+  abbrev one : Run
+  one = delivered r first a room₁
 
-no-record-more : (p : Park) (index : ℕ) (s : List ℕ) → NoRecord (nextOf s) → lines p index s ≡ cutBefore s ++ lLines p
-unfolding lines
-no-record-more p index s none = ap (λ (y : Parts). dLines p index (y .records) ++ (cutBefore (y .left) ++ lLines (after p (y .records)))) (parts-none s none)
+  abbrev both : List ℕ
+  both = drop (one .taken) a ++ b
 
-cut-some : (s : List ℕ) → nextOf s ≡ Cut → cutBefore s ≡ cutLine
-unfolding nextOf if_then_else_
-cut-some [] e = let z : _≡_ {A = ℕ} 0 1 = cc in absurd (omega arith)
-cut-some (x ∷ s) e = refl
+  abbrev two : Run
+  two = delivered (one .register) (one .index) both room₂
 
-cut-here : (p : Park) (index : ℕ) (s later : List ℕ) → nextOf s ≡ Cut → lines p index (s ++ later) ≡ cutLine ++ lLines p
-cut-here p index s later e =
-    let f = cut-firm s later e in
-    no-record-more p index (s ++ later) (rw f tt) ∙ ap (λ (t : List ℕ). t ++ lLines p) (cut-some (s ++ later) f)
+  abbrev all : Run
+  all = delivered r first (a ++ b) room
 
--- ---- The logs
-
-entries-lines : (board ind m : ℕ) (es : List Entry) → logText board ind es ≡ entryLines board ind (viewLog m es)
-unfolding viewEntry writeOf
-entries-lines board ind m [] = refl
-entries-lines board ind m (e ∷ es) =
-    λ i. lLine board ind (e .client) (e .number) (exe (e .exe) i) ++ entries-lines board (ind + 1) m es i
-  where
-    exe : (t : Bool) → t ≡ isEXE (if t then B.EXE else B.PRE)
-    exe true = unfold if_then_else_ in refl
-    exe false = unfold if_then_else_ in refl
-
-board-lines : (board : ℕ) (b : Board) → logLines board b room ≡ entryLines board 0 (viewBoard b .log)
-unfolding logLines viewBoard if_then_else_
-board-lines board b = entries-lines board 0 (b .m) (take (b .len) (b .log))
-
-logs-mean : (r : Register) (p : Park) → Means r p → (place more : ℕ) → place + more ≤ 8 → putLogs r place more ≡ boardLines p (place + 1) more
-logs-mean r p h place zero l = refl
-logs-mean r p h place (suc more) l =
-    let b : Board = getD (r .boards) place (boardAtStart 0 0 0) in
-    (λ i. board-lines (place + 1) b i ++ logs-mean r p h (place + 1) more (omega arith) i)
-    ∙ ap (λ (x : B.Board). entryLines (place + 1) 0 (x .log) ++ boardLines p (place + 1 + 1) more) (h .boards .each place (omega arith) .view)
-
-pub put-logs : (r : Register) (p : Park) → Means r p → putLogs r 0 (r .n) ≡ lLines p
-put-logs r p h = ap (putLogs r 0) (h .n) ∙ logs-mean r p h 0 (p .n) (omega (arith, h .few))
-
--- ---- The program
-
--- the bytes before others
-bytes-front : (s t : List ℕ) → Bytes (s ++ t) → Bytes s
-bytes-front [] t b i = omega arith
-bytes-front (x ∷ s) t b zero = b zero
-bytes-front (x ∷ s) t b (suc i) = bytes-front s t (λ j. b (suc j)) i
-
--- a turn's end writes the lines of the bytes that are left and of the pieces to come, if the turns behind it do
-end-writes :
-    (run : Run) (left : List ℕ) (x : Next) → nextOf left ≡ x → (p : Park) → Means (run .register) p → (xs : List Piece) (more : Between → List Piece → List ℕ) →
-    ((address end : ℕ) → x ≡ Record address end → more (record { register = run .register; index = run .index; bytes = left }) xs ≡ lines p (run .index) (left ++ bytesOf xs)) →
-    ((y : Piece) (ys : List Piece) → xs ≡ y ∷ ys →
-    more (record { register = run .register; index = run .index; bytes = left ++ y.first ∷ y.others }) ys ≡ lines p (run .index) (left ++ y.first ∷ y.others ++ bytesOf ys)) →
-    turnEnd run left x xs more ≡ lines p (run .index) (left ++ bytesOf xs)
-unfolding turnEnd
-end-writes run left (Record address end) e p h xs more again reading = again address end refl
-end-writes run left Need e p h [] more again reading =
-    ap (λ (t : List ℕ). cutBefore left ++ t) (put-logs (run .register) p h)
-    ∙ sym (no-record-more p (run .index) left (rw e tt))
-    ∙ ap (lines p (run .index)) (sym (append-nil left))
-end-writes run left Need e p h (y ∷ ys) more again reading =
-    reading y ys refl ∙ ap (lines p (run .index)) (append-assoc left (y .first ∷ y .others) (bytesOf ys))
-end-writes run left Cut e p h xs more again reading =
-    ap (λ (t : List ℕ). cutLine ++ t) (put-logs (run .register) p h) ∙ sym (cut-here p (run .index) left (bytesOf xs) e)
-
--- a delivery that leaves a record at the front has taken one
-some-taken : (r : Register) (index : ℕ) (s : List ℕ) → index < lastIndex → (address end : ℕ) → nextOf (drop (delivered r index s room .taken) s) ≡ Record address end
-    → 1 ≤ delivered r index s room .taken
-some-taken r index s few address end e = by-count (delivered r index s room .taken) refl
-  where
-    by-count : (k : ℕ) → delivered r index s room .taken ≡ k → 1 ≤ delivered r index s room .taken
-    by-count zero z =
-        let f : nextOf s ≡ Record address end = rw z at e in
-        absurd (omega (arith, goes-on r index s room address end f (omega arith) few))
-    by-count (suc k) z = omega arith
-
-turns-write :
-    (most : ℕ) (b : Between) (p : Park) (xs : List Piece) → Means (b .register) p → Bytes (b .bytes ++ bytesOf xs) →
-    length (b .bytes) + 2 * length (bytesOf xs) < most → b .index + length (b .bytes) + length (bytesOf xs) < lastIndex →
-    turnsOf most b xs ≡ lines p (b .index) (b .bytes ++ bytesOf xs)
-unfolding turnsOf
-turns-write zero b p xs h bytes turns few = absurd (omega arith)
-turns-write (suc most) b p xs h bytes turns few =
-    let run : Run = delivered (b .register) (b .index) (b .bytes) room in
-    let left : List ℕ = drop (run .taken) (b .bytes) in
-    let d : Done p (b .index) (b .bytes) run = delivered-means (b .register) p (b .index) (b .bytes) room h (bytes-front (b .bytes) (bytesOf xs) bytes) in
-    let l : length left ≡ length (b .bytes) - run .taken = length-drop (run .taken) (b .bytes) in
-    let here : Bytes (left ++ bytesOf xs) =
-    rw (drop-append-le (run .taken) (b .bytes) (bytesOf xs) (d .inside)) at (bytes-drop (run .taken) (b .bytes ++ bytesOf xs) bytes) in
-    ap (λ (t : List ℕ). run .text ++ t)
-    (end-writes run left (nextOf left) refl (after p (d .done)) (d .register) xs (turnsOf most)
-    (λ address end e.
-    let some = some-taken (b .register) (b .index) (b .bytes) (omega arith) address end e in
-    turns-write most (record { register = run .register; index = run .index; bytes = left }) (after p (d .done)) xs (d .register) here
-    (omega (arith, d .inside)) (omega (arith, d .index, d .fewer, d .inside)))
-    (λ y ys e.
-    let piece : List ℕ = y .first ∷ y .others in
-    let n = length-append left piece in
-    let c : length (bytesOf xs) ≡ suc (length (y .others)) + length (bytesOf ys) = rw e (omega (arith, length-append piece (bytesOf ys))) in
-    let there : Bytes (left ++ piece ++ bytesOf ys) = rw (append-assoc left piece (bytesOf ys)) (rw e at here) in
-    turns-write most (record { register = run .register; index = run .index; bytes = left ++ piece }) (after p (d .done)) ys (d .register)
-    there
-    (omega (arith, d .inside)) (omega (arith, d .index, d .fewer, d .inside))))
-    ∙ sym (pieces p (b .index) (b .bytes) run d (bytesOf xs))
+  pub at-once : NoRecord (nextOf (drop (two .taken) both)) → NoRecord (nextOf (drop (all .taken) (a ++ b))) → Same one two all (drop (two .taken) both) (drop (all .taken) (a ++ b))
+  unfolding before
+  at-once none₂ none =
+      let d₁ = delivered-means r p first a room₁ h (bytes-front a b bytes) in
+      let here : Bytes both = rw (drop-append-le (one .taken) a b (d₁ .inside)) at (bytes-drop (one .taken) (a ++ b) bytes) in
+      let d₂ = delivered-means (one .register) (after p (d₁ .done)) (one .index) both room₂ (d₁ .means) here in
+      let d = delivered-means r p first (a ++ b) room h bytes in
+      let e : _≡_ {A = Parts} (record { records = d .done; left = drop (all .taken) (a ++ b) }) (record { records = d₁ .done ++ d₂ .done; left = drop (two .taken) both })
+      = sym (all-done r p first (a ++ b) all d none) ∙ d₁ .front b
+      ∙ ap (before (d₁ .done)) (all-done (one .register) (after p (d₁ .done)) (one .index) both two d₂ none₂) in
+      let records : d .done ≡ d₁ .done ++ d₂ .done = ap (λ (x : Parts). x .records) e in
+      record {
+        text =
+            d .text ∙ ap (dLines p first) records ∙ lines-both p first (d₁ .done) (d₂ .done)
+            ∙ (λ i. sym (d₁ .text) i ++ dLines (after p (d₁ .done)) (sym (d₁ .index) i) (d₂ .done))
+            ∙ ap (λ (t : List ℕ). one .text ++ t) (sym (d₂ .text));
+        register =
+            d .register ∙ ap (registerAfter r) records ∙ register-both r (d₁ .done) (d₂ .done)
+            ∙ ap (λ (x : Register). registerAfter x (d₂ .done)) (sym (d₁ .register)) ∙ sym (d₂ .register);
+        index =
+            let n = length-append (d₁ .done) (d₂ .done) in
+            let m = ap length records in
+            omega (arith, d .index, d₁ .index, d₂ .index);
+        rest = ap (λ (x : Parts). x .left) e;
+      }

@@ -5,16 +5,16 @@ use mathlib.Core.List.{List}
 use mathlib.Core.Path.{_≡_, refl, ap, sym, _∙_}
 use Prim.Native.Nat.{ℕ, _+_, _<_}
 use native.Mathlib.Omega.{arith}
-use lib.Dec.{T, eqb, eqb→eq}
-use lib.ListN.{length, getD, set, replicate, length-set}
+use lib.Dec.{T, eqb}
+use lib.ListN.{getD, set, replicate, length-set}
 use lib.Seq.{getD-set-same, getD-set-other, set-getD}
-use borrow.Author.Tests.{eqb-true, eqb-false, eq-eqb}
+use borrow.Author.Tests.{eqb-true, eqb-false}
 use Rattle.rules.specs.Lists.{if_then_else_, changed, _=?_}
 use Rattle.rules.specs.Answers.{done}
 use Rattle.rules.specs.Outcomes.{Outcome, taken, refuse, leastOut, frameCount}
 use Rattle.rules.specs.Board as B
 use Rattle.rules.specs.Shard as S
-use Rattle.rules.proofs.Lists.{by, T-true, T-false}
+use Rattle.rules.proofs.Lists.{by, T-false}
 use Rattle.rules.proofs.Steps.{Deed, refused, held, new, heard, step-deed}
 use Rattle.rules.proofs.Steps as Steps
 use Rattle.frames.specs.View.{Bytes}
@@ -31,10 +31,9 @@ use Rattle.records.specs.declared.Receiver.{Receiver}
 use Rattle.records.specs.declared.Receiver.the-variants.{Board as toBoard, Shard as toShard, Nobody as toNobody}
 use Rattle.records.specs.Records.{receiverOf}
 use Rattle.delivery.specs.declared.Register.{Register}
-use Rattle.delivery.specs.Register as D
 use Rattle.delivery.specs.Register.{boardAtStart, shardAtStart, boardTurn, shardTurn, turnAt, turnOf}
 use Rattle.delivery.proofs.Turns.{board-within, shard-within}
-use Rattle.bench_means.specs.Transcript.{Park, Addressed, Turn, atBoard, atShard, turnTo, turn}
+use Rattle.bench_means.specs.Transcript.{Park, atBoard, atShard, turnTo, turn}
 use Rattle.bench_means.specs.View.{BoardMeans, ShardMeans, Eight, Means, TurnMeans}
 
 -- ---- One of eight changes
@@ -96,8 +95,8 @@ shard-steps s r frame means bytes =
     rw (← means .view) (record {
       taken = record { held = x .held; view = x .state };
       kept = λ t.
-      let still = SP.refused-still s frame out (λ e. T-not (shardStep s frame leastOut .answer) t e) in
-      record { held = means .held; view = ap viewShard (sym (still .shard)) ∙ x .state };
+          let still = SP.refused-still s frame out (λ e. T-not (shardStep s frame leastOut .answer) t e) in
+          record { held = means .held; view = ap viewShard (sym (still .shard)) ∙ x .state };
       answers = x .answer;
       sends = x .frames;
     })
@@ -115,8 +114,8 @@ module _ (r : Register) (p : Park) (h : Means r p) (frame : List ℕ) (bytes : B
       let x = board-steps _ _ frame (h .boards .each place inside) bytes in
       record {
         register = by (λ (after : Register). Means after (atBoard p (place + 1) (B.step (p .board (place + 1)) frame leastOut) .park)) _
-        (λ t. record { n = h .n; m = h .m; few = h .few; boards = changes (h .boards) place inside _ _ (x .taken); shards = h .shards })
-        (λ t. record { n = h .n; m = h .m; few = h .few; boards = stays (h .boards) place inside _ (x .kept t); shards = h .shards });
+            (λ t. record { n = h .n; m = h .m; few = h .few; boards = changes (h .boards) place inside _ _ (x .taken); shards = h .shards })
+            (λ t. record { n = h .n; m = h .m; few = h .few; boards = stays (h .boards) place inside _ (x .kept t); shards = h .shards });
         answer = x .answers;
         frames = x .sends;
       }
@@ -128,8 +127,8 @@ module _ (r : Register) (p : Park) (h : Means r p) (frame : List ℕ) (bytes : B
       let x = shard-steps _ _ frame (h .shards .each place inside) bytes in
       record {
         register = by (λ (after : Register). Means after (atShard p (place + 1) (S.step (p .shard (place + 1)) frame leastOut) .park)) _
-        (λ t. record { n = h .n; m = h .m; few = h .few; boards = h .boards; shards = changes (h .shards) place inside _ _ (x .taken) })
-        (λ t. record { n = h .n; m = h .m; few = h .few; boards = h .boards; shards = stays (h .shards) place inside _ (x .kept t) });
+            (λ t. record { n = h .n; m = h .m; few = h .few; boards = h .boards; shards = changes (h .shards) place inside _ _ (x .taken) })
+            (λ t. record { n = h .n; m = h .m; few = h .few; boards = h .boards; shards = stays (h .shards) place inside _ (x .kept t) });
         answer = x .answers;
         frames = x .sends;
       }

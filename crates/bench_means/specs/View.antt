@@ -1,7 +1,7 @@
 -- What the bench program's register means in the rules' words, and what the delivery of some bytes means.
 -- Assumes nothing.
 use mathlib.Core.Path.{_≡_}
-use mathlib.Core.List.{List, _∷_, _++_}
+use mathlib.Core.List.{List, [], _∷_, _++_}
 use Prim.Native.Nat.{ℕ, _+_, _≤_, _<_}
 use lib.ListN.{length, getD, drop}
 use Rattle.rules.specs.Frames.{backToBack}
@@ -18,7 +18,7 @@ use Rattle.records.specs.declared.Next.the-variants.{Record, Need, Cut}
 use Rattle.records.specs.Records.{nextOf}
 use Rattle.delivery.specs.declared.Register.{Register}
 use Rattle.delivery.specs.Register as D
-use Rattle.delivery.specs.Register.{boardAtStart, shardAtStart}
+use Rattle.delivery.specs.Register.{boardAtStart, shardAtStart, turnOf}
 use Rattle.delivery.specs.Delivery.{Run}
 use Rattle.bench_means.specs.Transcript.{Park, Addressed, Parts, parts, Turn, after, dLines}
 
@@ -73,14 +73,20 @@ joined x = backToBack recordBytes (x .records) ++ x .left
 
 -- ---- A delivery
 
+-- the register after some records
+abbrev pub registerAfter : Register → List Addressed → Register
+registerAfter r [] = r
+registerAfter r (x ∷ xs) = registerAfter (turnOf r (x .address) (x .frame) .register) xs
+
 -- How far a run over some bytes has come: the records done are those that stand at the front, whatever follows the bytes; the text is their d lines,
--- the register is the park after them, and the index is behind theirs.
-pub record Done (p : Park) (first : ℕ) (input : List ℕ) (run : Run) : Type 0 where
+-- the register is the one after them and means the park after them, and the index is behind theirs.
+pub record Done (r : Register) (p : Park) (first : ℕ) (input : List ℕ) (run : Run) : Type 0 where
   pub done : List Addressed
   pub inside : run .taken ≤ length input
   pub front : (later : List ℕ) → parts (input ++ later) ≡ before done (parts (drop (run .taken) input ++ later))
   pub text : run .text ≡ dLines p first done
-  pub register : Means (run .register) (after p done)
+  pub register : run .register ≡ registerAfter r done
+  pub means : Means (run .register) (after p done)
   pub index : run .index ≡ first + length done
   pub fewer : length done ≤ run .taken
 
@@ -93,3 +99,10 @@ pub data Stopped (input : List ℕ) (room : ℕ) (run : Run) : Type 0 where
   no-record : NoRecord (nextOf (drop (run .taken) input)) → Stopped input room run
   no-room : room < length (run .text) + 128 → Stopped input room run
   no-index : lastIndex ≤ run .index → Stopped input room run
+
+-- a delivery of all bytes beside one of some of them and then one of the rest: the lines, the register, the next index, and the bytes that are left
+pub record Same (one two all : Run) (leftByTwo leftByAll : List ℕ) : Type 0 where
+  pub text : all .text ≡ one .text ++ two .text
+  pub register : all .register ≡ two .register
+  pub index : all .index ≡ two .index
+  pub rest : leftByAll ≡ leftByTwo
