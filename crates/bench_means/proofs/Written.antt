@@ -27,7 +27,7 @@ use Rattle.delivery.specs.Delivery.{Run, delivered}
 use Rattle.delivery.specs.Logs.{logText, logLines}
 use Rattle.bench_means.specs.Transcript.{Park, Parts, after, dLines, entryLines, boardLines, lLines, cutBefore, fresh, lines, transcript}
 use Rattle.bench_means.specs.View.{Means, NoRecord, Done, lastIndex}
-use Rattle.bench_means.specs.Program.{Piece, bytesOf, room, putLogs, Between, turnEnd, turnsOf, written}
+use Rattle.bench_means.specs.Program.{Piece, bytesOf, room, putLogs, putCut, Between, turnEnd, turnsOf, written}
 use Rattle.bench_means.proofs.Starts.{start-means}
 use Rattle.bench_means.proofs.Parts.{cut-firm, parts-none}
 use Rattle.bench_means.proofs.Deliveries.{bytes-front, bytes-drop, delivered-means, goes-on}
@@ -77,6 +77,10 @@ put-logs r p h = ap (putLogs r 0) (h .n) ∙ logs-mean r p h 0 (p .n) (omega (ar
 
 -- ---- The program
 
+same-cut : (left : List ℕ) → putCut left ≡ cutBefore left
+same-cut [] = refl
+same-cut (x ∷ left) = refl
+
 -- a turn's end writes the lines of the bytes that are left and of the pieces to come, if the turns behind it do
 end-writes :
     (run : Run) (left : List ℕ) (x : Next) → nextOf left ≡ x → (p : Park) → Means (run .register) p → (xs : List Piece) (more : Between → List Piece → List ℕ) →
@@ -87,7 +91,7 @@ end-writes :
 unfolding turnEnd
 end-writes run left (Record address end) e p h xs more again reading = again address end refl
 end-writes run left Need e p h [] more again reading =
-    ap (λ (t : List ℕ). cutBefore left ++ t) (put-logs (run .register) p h)
+    (λ i. same-cut left i ++ put-logs (run .register) p h i)
     ∙ sym (no-record-more p (run .index) left (rw e tt))
     ∙ ap (lines p (run .index)) (sym (append-nil left))
 end-writes run left Need e p h (y ∷ ys) more again reading =

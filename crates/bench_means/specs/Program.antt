@@ -14,7 +14,6 @@ use Rattle.delivery.specs.declared.Register.{Register}
 use Rattle.delivery.specs.Register.{boardAtStart, registerOf}
 use Rattle.delivery.specs.Delivery.{Run, delivered}
 use Rattle.delivery.specs.Logs.{logLines}
-use Rattle.bench_means.specs.Transcript.{cutBefore}
 
 -- what one read gives: one byte at least; one that gives none is the end of the input
 pub record Piece : Type 0 where
@@ -34,6 +33,11 @@ abbrev pub putLogs : Register → (place more : ℕ) → List ℕ
 putLogs r place zero = []
 putLogs r place (suc more) = logLines (place + 1) (getD (r .boards) place (boardAtStart 0 0 0)) room ++ putLogs r (place + 1) more
 
+-- run, at the end of the input: `cut`, unless no byte is kept
+abbrev pub putCut : (kept : List ℕ) → List ℕ
+putCut [] = []
+putCut (x ∷ kept) = cutLine
+
 -- run, between two turns: the register, the next record's index, and the bytes read that are not delivered
 pub record Between : Type 0 where
   pub register : Register
@@ -43,7 +47,7 @@ pub record Between : Type 0 where
 -- run, the end of a turn, by what stands at the front of the bytes that are left; then the logs
 unfoldable pub turnEnd : Run → (left : List ℕ) → Next → (pieces : List Piece) → (Between → List Piece → List ℕ) → List ℕ
 turnEnd run left (Record address end) pieces more = more (record { register = run .register; index = run .index; bytes = left }) pieces
-turnEnd run left Need [] more = cutBefore left ++ putLogs (run .register) 0 (run .register .n)
+turnEnd run left Need [] more = putCut left ++ putLogs (run .register) 0 (run .register .n)
 turnEnd run left Need (x ∷ xs) more = more (record { register = run .register; index = run .index; bytes = left ++ x.first ∷ x.others }) xs
 turnEnd run left Cut pieces more = cutLine ++ putLogs (run .register) 0 (run .register .n)
 

@@ -72,7 +72,8 @@ atBoard p i o = record { park = record { n = p.n; m = p.m; board = changed p.boa
 unfoldable pub atShard : Park → ℕ → Outcome S.Shard → Turn
 atShard p j o = record { park = record { n = p.n; m = p.m; board = p.board; shard = changed p.shard j (o .state) }; answer = o .answer; frames = frameCount o }
 
--- "An address that names nobody: answer 2, 0 frames", whatever the frame is. A receiver's place is its number less one.
+-- A receiver's place is its number less one; it gets the least out area, and no step sends more. "An address that names nobody: answer 2, 0 frames",
+-- whatever the frame is.
 unfoldable pub turnTo : Park → (frame : List ℕ) → Receiver → Turn
 turnTo p frame (toBoard place) = atBoard p (place + 1) (B.step (p .board (place + 1)) frame leastOut)
 turnTo p frame (toShard place) = atShard p (place + 1) (S.step (p .shard (place + 1)) frame leastOut)
