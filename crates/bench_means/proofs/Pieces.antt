@@ -1,5 +1,5 @@
 -- The transcript does not depend on how the input is cut into pieces: what a delivery did of some bytes, and the rest put before what follows, give the
--- lines of all the bytes at once. So the program writes the transcript of what it reads, whatever each read gives.
+-- lines, and the register, of all the bytes at once.
 -- Assumes nothing.
 use mathlib.Core.List.{List, _++_, append-assoc}
 use mathlib.Core.Path.{_≡_, ap, sym, _∙_}
@@ -14,8 +14,6 @@ use Rattle.delivery.specs.Delivery.{Run, delivered}
 use Rattle.bench_means.specs.Transcript.{Park, Parts, parts, after, dLines, lLines, cutBefore, lines}
 use Rattle.bench_means.specs.View.{Means, NoRecord, before, registerAfter, Done, Same}
 use Rattle.bench_means.proofs.Deliveries.{bytes-drop, bytes-front, after-both, register-both, lines-both, delivered-means, all-done}
-
--- ---- Pieces
 
 -- PIECES: the lines of some bytes and of what follows are the lines that a delivery of the bytes gave, and those of the bytes that it left and of what follows
 pub pieces : (r : Register) (p : Park) (index : ℕ) (input : List ℕ) (run : Run) (d : Done r p index input run) (later : List ℕ)
