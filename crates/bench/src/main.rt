@@ -1,6 +1,8 @@
 // The bench program (01, "The bench program"): n and m, then records, from standard input to its end; a line for each record, then the logs, to
 // standard output. What is done with the bytes is the crate delivery's, and proved there. Here they are read and written, in large pieces: one read
 // and one write for every 64 KB or so. No contract can say which bytes are read and written; what is proved here is that it is safe and ends.
+// Crate bench_means has these functions once more as one definition (specs/Program), and shows that what it writes is what 01 says of all that is read,
+// whatever each read gives. Whoever changes the one changes the other.
 use delivery::Register;
 use libc::STDIN_FILENO;
 use libc::STDOUT_FILENO;

@@ -1,6 +1,6 @@
 -- What the program does with what it reads (crates/bench/src/main.rt), as a function from the pieces that it reads to the bytes that it writes. The
--- parts are the functions that the promises of `deliver`, `record_at`, `log_lines` and the lines cite. No contract can say what is read or written,
--- so that main.rt puts them together in this way is to be read there, line beside line.
+-- parts are the functions that the promises of `deliver`, `record_at`, `log_lines` and the lines cite; what of them stands in the areas is proofs/Areas.
+-- No contract can say what is read or written, so that main.rt puts them together in this way is to be read there, line beside line.
 -- Assumes nothing.
 use mathlib.Core.List.{List, [], _∷_, _++_}
 use Prim.Native.Nat.{ℕ, zero, suc, _+_}
