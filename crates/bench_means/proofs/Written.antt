@@ -110,6 +110,7 @@ some-taken r index s few address end e = by-count (delivered r index s room .tak
         absurd (omega (arith, goes-on r index s room address end f (omega arith) few))
     by-count (suc k) z = omega arith
 
+-- the turns write the lines of the bytes at hand and of the pieces to come, where there are turns and indices enough: each turn takes a record or a piece
 turns-write :
     (most : ℕ) (b : Between) (p : Park) (xs : List Piece) → Means (b .register) p → Bytes (b .bytes ++ bytesOf xs) →
     length (b .bytes) + 2 * length (bytesOf xs) < most → b .index + length (b .bytes) + length (bytesOf xs) < lastIndex →

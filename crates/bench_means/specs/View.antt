@@ -29,6 +29,7 @@ pub record BoardMeans (b : Board) (r : B.Board) : Type 0 where
   pub held : BV.Held b
   pub view : viewBoard b ≡ r
 
+-- the same of a shard group
 pub record ShardMeans (s : Shard) (r : S.Shard) : Type 0 where
   pub held : SV.Held s
   pub view : viewShard s ≡ r
