@@ -1,6 +1,6 @@
 -- Items and the operations, placed operations and reads that they mean: bytes, rules and back, each proved once over the view.
 -- Assumes nothing.
-use mathlib.Core.Path.{_≡_, refl, sym, ap}
+use mathlib.Core.Path.{_≡_, refl, sym, ap, _∙_}
 use mathlib.Core.Bool.{Bool, not, _&&_, _||_}
 use mathlib.Core.List.{List, [], _∷_, _++_, map}
 use mathlib.Core.Option.{Option, none, some}
@@ -245,3 +245,39 @@ read-canon i x = go (x .value)
     go : (v : Option ℕ) → T (okSeen v) → CanonItem Read i (seenItem (x .place) v)
     go none t = (refl, (omega arith, omega arith))
     go (some value) t = (refl, (omega arith, value-lt value t))
+
+-- ---- Right items that lie as they should are made of what they mean
+
+operation-made : (p : ℕ) (x : Item) → x .place ≡ p → T (okItem x) → operationItem p (asOperation x) ≡ x
+operation-made p x e t =
+    let r = item-rules x t in
+    by (λ (o : R.Operation). operationItem p o ≡ x) (eqb (x .code) 0)
+    (λ u. let c = eqb→eq (x .code) 0 u in λ i. record { place = sym e i; code = sym c i; key = x .key; value = sym (r .value c) i })
+    (λ u. λ i. record { place = sym e i; code = sym (one (x .code) (r .code) u) i; key = x .key; value = x .value })
+
+pub read-made : (i : ℕ) (x : Item) → T (okItem x) → CanonItem Read i x → readItem (asRead x) ≡ x
+read-made i x t (k, c) =
+    let r = item-rules x t in
+    by (λ (v : Option ℕ). seenItem (x .place) v ≡ x) (eqb (x .code) 0)
+    (λ u. let c = eqb→eq (x .code) 0 u in λ i. record { place = x .place; code = sym c i; key = sym k i; value = sym (r .value c) i })
+    (λ u. λ i. record { place = x .place; code = sym (one (x .code) (r .code) u) i; key = sym k i; value = x .value })
+
+empty-made : (shape : Shape) (i : ℕ) (xs : List Item) → CanonFrom shape i zero xs → filled (length xs) [] ≡ xs
+empty-made shape i [] c = refl
+empty-made shape i (x ∷ xs) (e, c) = λ j. sym e j ∷ empty-made shape (suc i) xs c j
+
+operations-made : (p i n : ℕ) (xs : List Item) → T (okFrom p n xs) → CanonFrom Operation i n xs → filled (length xs) (operationItems i (map asOperation (take n xs))) ≡ xs
+operations-made p i zero xs t c = empty-made Operation i xs c
+operations-made p i (suc n) [] t c = absurd t
+operations-made p i (suc n) (x ∷ xs) t (d, c) =
+    let a : Bool = leb p (x .place) in
+    let r : Bool = okFrom (suc (x .place)) n xs in
+    λ j. operation-made i x (d .0) (and-r a (okItem x) (and-l (a && okItem x) r t)) j ∷ operations-made (suc (x .place)) (suc i) n xs (and-r (a && okItem x) r t) c j
+
+-- so the same operations are the same items
+pub same-operations : (n m : ℕ) (xs ys : List Item) → T (okFrom 0 n xs) → T (okFrom 0 m ys) → CanonFrom Operation 0 n xs → CanonFrom Operation 0 m ys → length xs ≡ length ys
+    → map asOperation (take n xs) ≡ map asOperation (take m ys) → (n ≡ m) × (xs ≡ ys)
+same-operations n m xs ys t u c d l e = (
+  sym (view-length asOperation 0 n xs t) ∙ ap length e ∙ view-length asOperation 0 m ys u,
+  sym (operations-made 0 0 n xs t c) ∙ (λ i. filled (l i) (operationItems 0 (e i))) ∙ operations-made 0 0 m ys u d,
+)
