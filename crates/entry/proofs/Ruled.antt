@@ -3,18 +3,18 @@
 -- Assumes nothing.
 use mathlib.Core.Path.{_≡_, refl, ap, sym, _∙_}
 use mathlib.Core.Logic.{_≢_}
-use mathlib.Core.Bool.{Bool, true, false, not, _&&_}
+use mathlib.Core.Bool.{Bool, true, false, _&&_}
 use mathlib.Core.List.{List, [], _∷_}
-use Prim.Native.Nat.{ℕ, zero, suc, min, _≤_}
+use Prim.Native.Nat.{ℕ, suc, _≤_}
 use native.Mathlib.Omega.{arith}
-use lib.Dec.{T, eqb}
+use lib.Dec.{eqb}
 use lib.ListN.{length, take, length-take}
 use mir.Facts.{no-eqb}
 use Rattle.rules.specs.Lists.{if_then_else_, has}
 use Rattle.rules.proofs.Lists.{by, T-false}
 use Rattle.frames.specs.declared.Item.{Item}
 use Rattle.entry.specs.declared.Entry.{Entry}
-use Rattle.entry.specs.Model.{inMask, strikeOf, isEmptyOf, touchedMask, touchedOf, partOf, noPart, beside, chosen, isGet, agree, sameOperation, sameOperationsOf, samePlace, fitsOf, answeredOf, readsHeld, noEntry, sameWriteOf, heardFromOf, finishedOf}
+use Rattle.entry.specs.Model.{inMask, strikeOf, touchedMask, touchedOf, noPart, beside, chosen, isGet, sameOperationsOf, fitsOf, answeredOf, readsHeld, noEntry, sameWriteOf, heardFromOf, finishedOf}
 use Rattle.entry.specs.View.{setOf}
 use Rattle.entry.proofs.Masks.{in-strike}
 use Rattle.entry.proofs.Sets.{in-set}

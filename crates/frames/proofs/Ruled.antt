@@ -2,11 +2,11 @@
 -- that the contract cites.
 -- Assumes nothing.
 use mathlib.Core.Path.{_≡_, refl}
-use mathlib.Core.Bool.{Bool, false}
-use mathlib.Core.List.{List, _++_}
+use mathlib.Core.Bool.{false}
+use mathlib.Core.List.{List}
 use mathlib.Core.Option.{none}
-use Prim.Native.Nat.{ℕ, _≤_}
-use lib.Dec.{T, leb, leb→le}
+use Prim.Native.Nat.{ℕ}
+use lib.Dec.{leb, leb→le}
 use lib.ListN.{length, take, drop, replicate}
 use lib.Seq.{length-take-le, take-at}
 use Rattle.rules.specs.Lists.{if_then_else_}

@@ -1,18 +1,17 @@
 -- Wrong answers that the promises of this crate rule out, beside those that the laws in Records and Front do: each is shown of the definition that
 -- the contract cites.
 -- Assumes nothing.
-use mathlib.Core.Path.{_≡_, refl, ap, sym, _∙_}
-use mathlib.Core.Bool.{Bool, false, _&&_}
-use mathlib.Core.List.{List, _++_}
-use Prim.Native.Nat.{ℕ, _+_, _-_, _≤_, _<_}
+use mathlib.Core.Path.{_≡_, refl, ap, _∙_}
+use mathlib.Core.List.{List}
+use Prim.Native.Nat.{ℕ, _+_, _-_, _≤_}
 use native.Mathlib.Omega.{arith}
 use lib.Dec.{T, leb, leb→le}
-use lib.ListN.{length, take, drop, length-append, length-take, length-drop}
-use lib.Seq.{length-take-le, drop-append-seam}
-use Rattle.rules.specs.Lists.{if_then_else_, within}
+use lib.ListN.{length, take, drop, length-append, length-drop}
+use lib.Seq.{length-take-le}
+use Rattle.rules.specs.Lists.{within}
 use Rattle.rules.proofs.Lists.{by, and-l, and-r}
 use Rattle.records.specs.Records.{usableOf}
-use Rattle.records.specs.Front.{isPart, partLength, frontOf}
+use Rattle.records.specs.Front.{isPart, frontOf}
 
 -- ---- usable
 

@@ -5,7 +5,6 @@ use mathlib.Core.List.{List, [], _∷_}
 use Prim.Native.Nat.{ℕ, _+_, _≤_}
 use native.Mathlib.Omega.{arith}
 use lib.ListN.{length, take, length-take}
-use Rattle.rules.specs.Lists.{if_then_else_}
 use Rattle.rules.proofs.Lists.{by}
 use Rattle.frames.specs.declared.Frame.{Frame}
 use Rattle.entry.specs.Model.{inMask}

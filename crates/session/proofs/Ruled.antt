@@ -2,13 +2,10 @@
 -- the contract cites.
 -- Assumes nothing.
 use mathlib.Core.Path.{_≡_, refl}
-use mathlib.Core.Bool.{Bool, false}
-use mathlib.Core.List.{List}
-use mathlib.Core.Option.{none, some}
-use Prim.Native.Nat.{ℕ, _≤_, _<_}
+use mathlib.Core.Bool.{false}
+use Prim.Native.Nat.{ℕ, _≤_}
 use native.Mathlib.Omega.{arith}
 use lib.Dec.{ltb}
-use lib.ListN.{length}
 use borrow.Author.Tests.{lt-ltb, le-ltb}
 use Rattle.rules.specs.Lists.{if_then_else_}
 use Rattle.rules.specs.Answers.{notUsable}
@@ -18,7 +15,7 @@ use Rattle.window.specs.Model as W
 use Rattle.window.proofs.Ruled.{fresh-has-none}
 use Rattle.session.specs.declared.Session.{Session}
 use Rattle.session.specs.declared.Started.{Started}
-use Rattle.session.specs.Model.{startedOf, Call, refusal, sending, given, retrying, retriedOf}
+use Rattle.session.specs.Model.{startedOf, sending, retrying}
 
 -- ---- start
 

@@ -1,14 +1,14 @@
 -- Wrong answers that the promises of this crate rule out, beside those that the laws in Means do: each is shown of the definition that the
 -- contract cites.
 -- Assumes nothing.
-use mathlib.Core.Path.{_≡_, refl, sym, _∙_}
+use mathlib.Core.Path.{_≡_, refl}
 use mathlib.Core.Bool.{Bool, true, false, _&&_}
 use mathlib.Core.List.{List}
 use Prim.Native.Nat.{ℕ, _+_, _%_, _≤_, _<_}
 use native.Mathlib.Omega.{arith}
 use native.Mathlib.Nat.{mod-lt}
-use lib.Dec.{T, leb, eqb, eqb→eq}
-use lib.ListN.{getD, replicate, getD-replicate}
+use lib.Dec.{leb, eqb, eqb→eq}
+use lib.ListN.{getD-replicate}
 use borrow.Author.Tests.{le-leb, lt-leb}
 use Rattle.frames.specs.declared.Item.{Item}
 use Rattle.rules.specs.Lists.{if_then_else_}
