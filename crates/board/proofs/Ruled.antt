@@ -1,13 +1,13 @@
 -- Wrong answers that the promises of this crate rule out: each is shown of the definition that the contract cites, for every bit pattern of a board.
 -- Assumes nothing.
 use mathlib.Core.Path.{_≡_, refl}
-use mathlib.Core.Bool.{Bool, false, _&&_}
+use mathlib.Core.Bool.{false, _&&_}
 use mathlib.Core.List.{List}
-use Prim.Native.Nat.{ℕ, _≤_, _<_}
+use Prim.Native.Nat.{ℕ, _<_}
 use native.Mathlib.Omega.{arith}
-use lib.Dec.{T, leb, leb→le}
+use lib.Dec.{leb, leb→le}
 use lib.ListN.{length, replicate}
-use Rattle.rules.specs.Lists.{if_then_else_, within}
+use Rattle.rules.specs.Lists.{within}
 use Rattle.rules.specs.Answers.{notUsable}
 use Rattle.rules.proofs.Lists.{by, and-r}
 use Rattle.entry.specs.Model.{noEntry}
