@@ -11,7 +11,13 @@ use borrow.Author.Tests.{le-leb}
 use Rattle.rules.specs.Lists.{if_then_else_}
 use Rattle.lines.specs.Area.{laid, taken}
 use Rattle.records.specs.Front.{partLength, frontOf}
-use Rattle.delivery.specs.Delivery.{standing}
+use Rattle.frames.specs.View.{Bytes}
+use Rattle.delivery.specs.declared.Register.{Register}
+use Rattle.delivery.specs.declared.Delivered.{Delivered}
+use Rattle.delivery.specs.Delivery.{standing, delivered, deliveredOf}
+use Rattle.bench_means.specs.Transcript.{Park}
+use Rattle.bench_means.specs.View.{Means, Done}
+use Rattle.bench_means.proofs.Deliveries.{delivered-means}
 
 -- a text that stands in an area, of `deliver` or `log_lines`
 pub put-text : (text area : List ℕ) → take (length text) (standing text area) ≡ text
@@ -29,3 +35,10 @@ kept-bytes from end area low high =
     rw (le-leb from end low, le-leb end (length area) high)
     (take-at (take (end - from) (drop from area)) (drop (end - from) area) (end - from)
     (length-take-le (end - from) (drop from area) (rw (length-drop from area) (omega arith))))
+
+-- so every outcome that the promise of `deliver` admits means what the rules say of the records that it did
+pub deliver-means : (r : Register) (p : Park) (first : ℕ) (input area : List ℕ) (d : Delivered) (out : List ℕ) → Means r p → Bytes input
+    → d ≡ deliveredOf (delivered r first input (length area)) → out ≡ standing (delivered r first input (length area) .text) area
+    → Done r p first input (record { register = d .register; index = d .index; taken = d .taken; text = take (d .written) out })
+deliver-means r p first input area d out h bytes result left =
+    rw (result, left, put-text (delivered r first input (length area) .text) area) (delivered-means r p first input (length area) h bytes)
