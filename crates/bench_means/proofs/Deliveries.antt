@@ -12,6 +12,7 @@ use borrow.Author.Tests.{lt-leb, le-ltb}
 use Rattle.rules.specs.Lists.{if_then_else_}
 use Rattle.rules.proofs.Lists.{by, or-cases}
 use Rattle.frames.specs.View.{Bytes}
+use Rattle.frames.proofs.Meaning.{bytes-take}
 use Rattle.lines.specs.Text.{dLine}
 use Rattle.lines.proofs.Short.{d-short}
 use Rattle.records.specs.declared.Next.{Next}
@@ -28,12 +29,6 @@ use Rattle.bench_means.proofs.Turns.{turn-means}
 use Rattle.bench_means.proofs.Parts.{record-firm, firstOf, parts-record, parts-none}
 
 -- ---- Bytes
-
-bytes-take : (n : ℕ) (s : List ℕ) → Bytes s → Bytes (take n s)
-bytes-take zero s b i = omega arith
-bytes-take (suc n) [] b i = omega arith
-bytes-take (suc n) (x ∷ s) b zero = b zero
-bytes-take (suc n) (x ∷ s) b (suc i) = bytes-take n s (λ j. b (suc j)) i
 
 pub bytes-drop : (n : ℕ) (s : List ℕ) → Bytes s → Bytes (drop n s)
 bytes-drop n s b i = rw (getD-drop n s i 0) (b (n + i))

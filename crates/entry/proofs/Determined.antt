@@ -9,10 +9,10 @@ use native.Mathlib.Omega.{arith}
 use lib.Dec.{T}
 use lib.ListN.{getD}
 use lib.Seq.{ext-getD}
-use Rattle.rules.specs.Lists.{if_then_else_, at, has}
+use Rattle.rules.specs.Lists.{at, has}
 use Rattle.rules.specs.Transactions.{Operation, keyOf, placed, keep, gather}
 use Rattle.rules.specs.Board as B
-use Rattle.rules.specs.Board.{isEXE, PRE, EXE}
+use Rattle.rules.specs.Board.{isEXE}
 use Rattle.rules.proofs.Lists.{and-l, and-r}
 use Rattle.frames.specs.declared.Item.{Item}
 use Rattle.frames.specs.Frames.{noItem}
@@ -22,6 +22,7 @@ use Rattle.entry.specs.declared.Entry.{Entry}
 use Rattle.entry.specs.View.{setOf, saw, heardKey, writeOf, viewEntry, isGet, ReadOf, answeredGet, EntryHeld}
 use Rattle.entry.proofs.Masks.{same-mask}
 use Rattle.entry.proofs.Sets.{in-set}
+use Rattle.entry.proofs.Entries.{exe-view}
 use Rattle.entry.proofs.ByPlace.{told}
 
 -- what holds of the slots of reads, over the operations and the shards that remain
@@ -56,11 +57,6 @@ module _ (m : ℕ) (remaining : List ℕ) (os : List Operation) (xs ys : List It
       go none q = let none-there : T (not (answeredGet m remaining (at os p))) = rw (← q) tt in a .unanswered p none-there ∙ sym (b .unanswered p none-there)
       go (some o) q = both o q (isGet o && heardKey m remaining (keyOf o)) refl
 
-status-is : (a : Bool) → isEXE (if a then EXE else PRE) ≡ a
-unfolding if_then_else_
-status-is true = refl
-status-is false = refl
-
 pub determined : (m : ℕ) (e f : Entry) → EntryHeld m e → EntryHeld m f → viewEntry m e ≡ viewEntry m f → e ≡ f
 unfolding viewEntry writeOf
 determined m e f h k q =
@@ -69,7 +65,7 @@ determined m e f h k q =
     let shards : setOf (e .remaining) ≡ setOf (f .remaining) = ap (λ (x : B.Entry). x .remaining) q in
     let remaining : e .remaining ≡ f .remaining
     = same-mask (e .remaining) (f .remaining) (h .byte) (k .byte) (λ j. sym (in-set (e .remaining) j) ∙ ap (has j) shards ∙ in-set (f .remaining) j) in
-    let exe : e .exe ≡ f .exe = sym (status-is (e .exe)) ∙ ap (λ (x : B.Entry). isEXE (x .status)) q ∙ status-is (f .exe) in
+    let exe : e .exe ≡ f .exe = sym (exe-view m e) ∙ ap (λ (x : B.Entry). isEXE (x .status)) q ∙ exe-view m f in
     let theirs : Slots m (setOf (e .remaining)) (operationsOf (e .count) (e .items)) (f .reads) = rw (ops, shards) (slots-of m f k) in
     let same : gather (keep (heardKey m (setOf (e .remaining))) (placed 0 (operationsOf (e .count) (e .items)))) (saw (e .reads))
     ≡ gather (keep (heardKey m (setOf (e .remaining))) (placed 0 (operationsOf (e .count) (e .items)))) (saw (f .reads))

@@ -22,7 +22,7 @@ use Rattle.frames.specs.declared.Head.the-variants.{Bad, Submit, Forward
 use Rattle.frames.specs.declared.Frame.{Frame}
 use Rattle.frames.specs.declared.Front.{Front}
 use Rattle.frames.specs.Frames.{kindOf, fieldBytes, shapeOf, isBad, itemBytes, headerBytes, listBytes, frameBytes, lenOf, okItem, okFrom, okItems, okWindow, okHead, valid, badFrame, noFront, readFront, readFrame, framesBytes}
-use Rattle.frames.specs.View.{asOperation, asPlaced, asRead, operationsOf, placedOf, readsOf, answerOf, answerTo, meant, meaning, encoded, Bytes, Canon, CanonFrom, CanonFrame, operationItems, placedItem, readItem, filled, recordOf}
+use Rattle.frames.specs.View.{viewLast, asOperation, asPlaced, asRead, operationsOf, placedOf, readsOf, answerOf, answerTo, meant, meaning, encoded, Bytes, Canon, CanonFrom, CanonFrame, operationItems, placedItem, readItem, filled, recordOf}
 use Rattle.frames.proofs.Puts.{bad-bytes, frame-bytes, length-framed}
 use Rattle.frames.proofs.Round.{enough, head-of, items-of, fronts, Spells, reads, frame-back}
 use Rattle.frames.proofs.Items as I
@@ -421,17 +421,23 @@ valid-of f g t e o =
     let m : Obeying (meant (f .head) (f .count) (f .items)) = rw e o in
     and (okHead (f .head) (f .count)) (okItems (f .count) (f .items)) (head-allowed (f .head) (f .count) (f .items) (speaks (f .head) (f .count) (f .items) g e) t m) t
 
+pub last-one : (p q : ℕ) → viewLast p ≡ viewLast q → p ≡ q
+last-one zero zero e = refl
+last-one zero (suc q) e = nothing e
+last-one (suc p) zero e = nothing (sym e)
+last-one (suc p) (suc q) e = let f : p ≡ q = cc in ap suc f
+
+pub bytes-take : (n : ℕ) (s : List ℕ) → Bytes s → Bytes (take n s)
+bytes-take zero s b i = omega arith
+bytes-take (suc n) [] b i = omega arith
+bytes-take (suc n) (x ∷ s) b zero = b zero
+bytes-take (suc n) (x ∷ s) b (suc i) = bytes-take n s (λ j. b (suc j)) i
+
 -- the reader of a front means the rules' reading of the bytes up to the end that it gives
 pub front-means : (s : List ℕ) → Bytes s → meaning (readFront s .frame) ≡ decode (take (readFront s .end) s)
 front-means s b =
     fronts s b (λ (r : Front). meaning (r .frame) ≡ decode (take (r .end) s)) (unfold noFront badFrame meaning decode F.candidate F.spelled if_then_else_ in refl)
     (λ r g. ap meaning (sym (frame-back (r .frame) (g .right) (g .canon)) ∙ ap readFrame (g .bytes)) ∙ reads-mean (take (r .end) s) (bytes-take (r .end) s b))
-  where
-    bytes-take : (n : ℕ) (s : List ℕ) → Bytes s → Bytes (take n s)
-    bytes-take zero s b i = omega arith
-    bytes-take (suc n) [] b i = omega arith
-    bytes-take (suc n) (x ∷ s) b zero = b zero
-    bytes-take (suc n) (x ∷ s) b (suc i) = bytes-take n s (λ j. b (suc j)) i
 
 -- frames sent in turn have the rules' bytes, back to back
 abbrev pub Sends : List Frame → List F.Frame → Type 0

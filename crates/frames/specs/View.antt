@@ -19,6 +19,12 @@ use Rattle.frames.specs.declared.Head.the-variants.{Bad, Submit, Forward
 use Rattle.frames.specs.declared.Frame.{Frame}
 use Rattle.frames.specs.Frames.{noItem, shapeOf}
 
+-- ---- The last log number taken or run, kept in one word: 0 is none, else it is the number and one
+
+abbrev pub viewLast : ℕ → Option ℕ
+viewLast zero = none
+viewLast (suc ind) = some ind
+
 -- ---- Items
 
 -- "0 get or 1 put"

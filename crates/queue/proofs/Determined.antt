@@ -11,17 +11,12 @@ use lib.ListN.{length, getD, set, take, drop, replicate, length-append, length-r
 use lib.Seq.{ext-getD, set-at, append-snoc, take-suc-set, take-append-seam}
 use Rattle.rules.specs.Lists.{within, snoc}
 use Rattle.rules.specs.Queue as Q
-use Rattle.rules.proofs.Lists.{by, if-yes, and, nothing}
+use Rattle.rules.proofs.Lists.{by, if-yes, and}
 use Rattle.entry.specs.Model.{inMask}
 use Rattle.queue.specs.declared.Queue.{Queue}
+use Rattle.frames.proofs.Meaning.{last-one}
 use Rattle.queue.specs.Model.{slotsOf, noQueue, waiting, pushedOf, upTo, leftOf, without, takenOf, changeFrom, changedOf, changedAll}
-use Rattle.queue.specs.View.{viewLast, viewQueue, blankQueue, viewQueues, Tidy, AllTidy}
-
-last-one : (p q : ℕ) → viewLast p ≡ viewLast q → p ≡ q
-last-one zero zero e = refl
-last-one zero (suc q) e = nothing e
-last-one (suc p) zero e = nothing (sym e)
-last-one (suc p) (suc q) e = let f : p ≡ q = cc in ap suc f
+use Rattle.queue.specs.View.{viewQueue, blankQueue, viewQueues, Tidy, AllTidy}
 
 slots-length : (xs : List ℕ) → length xs ≤ 256 → length (slotsOf xs) ≡ 256
 slots-length xs h =

@@ -17,11 +17,12 @@ use Rattle.rules.specs.Queue.{emptyQueue, enqueue, takeFrom, takeUpTo}
 use Rattle.rules.specs.Board.{onQueues}
 use Rattle.rules.proofs.Lists.{by, if-yes, if-no, and-l, and-r, T-true}
 use Rattle.entry.specs.Model.{inMask}
+use Rattle.frames.specs.View.{viewLast}
 use Rattle.entry.specs.View.{setOf}
 use Rattle.entry.proofs.Sets.{iff, in-set}
 use Rattle.queue.specs.declared.Queue.{Queue}
 use Rattle.queue.specs.Model.{slotsOf, waiting, pushedOf, upTo, lastOf, leftOf, without, takenOf, changeFrom, changedAll}
-use Rattle.queue.specs.View.{viewLast, viewQueue, blankQueue, viewQueues, QueueHeld, QueuesHeld}
+use Rattle.queue.specs.View.{viewQueue, blankQueue, viewQueues, QueueHeld, QueuesHeld}
 use Rattle.queue.proofs.Loops.{up-to-few, change-length, change-at}
 
 -- ---- Pushed

@@ -2,19 +2,14 @@
 -- Assumes nothing.
 use mathlib.Core.Path.{_≡_}
 use mathlib.Core.List.{List, [], _∷_}
-use mathlib.Core.Option.{Option, none, some}
-use Prim.Native.Nat.{ℕ, zero, suc, _-_, _≤_, _<_}
+use Prim.Native.Nat.{ℕ, _-_, _≤_, _<_}
 use lib.ListN.{length, getD}
 use Rattle.rules.specs.Lists.{if_then_else_, within}
 use Rattle.rules.specs.Queue as Q
 use Rattle.rules.specs.Queue.{emptyQueue}
+use Rattle.frames.specs.View.{viewLast}
 use Rattle.queue.specs.declared.Queue.{Queue}
 use Rattle.queue.specs.Model.{slotsOf, waiting}
-
--- 0: none
-abbrev pub viewLast : ℕ → Option ℕ
-viewLast zero = none
-viewLast (suc ind) = some ind
 
 unfoldable pub viewQueue : Queue → Q.Queue
 viewQueue q = record { waiting = waiting q; lastTaken = viewLast (q .taken) }

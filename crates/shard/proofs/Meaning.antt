@@ -23,12 +23,12 @@ use Rattle.frames.specs.declared.Item.{Item}
 use Rattle.frames.specs.declared.Head.{Head}
 use Rattle.frames.specs.declared.Head.the-variants.{Bad, Submit, Forward, ShardAppend, ExecNotif, Executed, Response}
 use Rattle.frames.specs.declared.Frame.{Frame}
-use Rattle.frames.specs.View.{asOperation, asPlaced, meant, recordOf}
+use Rattle.frames.specs.View.{viewLast, asOperation, asPlaced, meant, recordOf}
 use Rattle.frames.proofs.Items.{key-of}
 use Rattle.shard.specs.declared.Shard.{Shard}
 use Rattle.shard.specs.declared.Verdict.{Verdict}
 use Rattle.shard.specs.Model.{mine, allMine, refused, judgeAppend, judgeHead, noReads, execNotif, Outcome, after, settled}
-use Rattle.shard.specs.View.{viewStore, viewLast, viewShard, readsRecord, Held}
+use Rattle.shard.specs.View.{viewStore, viewShard, readsRecord, Held}
 use Rattle.shard.proofs.Runs.{Keys, ran-means}
 
 -- ---- The tests

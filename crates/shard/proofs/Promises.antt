@@ -33,9 +33,9 @@ use Rattle.shard.specs.declared.Started.{Started}
 use Rattle.shard.specs.declared.Stepped.{Stepped}
 use Rattle.shard.specs.declared.Verdict.{Verdict}
 use Rattle.shard.specs.Model.{absent, emptyShard, startOf, judge, cellAt, cellAfter, Running, turn, ran, Outcome, after, settled, itemsOf, outcome, stepped, laid, stepOf, outOf}
-use Rattle.shard.specs.View.{viewCell, viewStore, viewLast, viewShard, Held, StartMeans, StepMeans}
+use Rattle.shard.specs.View.{viewCell, viewStore, viewShard, Held, StartMeans, StepMeans}
 use Rattle.shard.proofs.Meaning.{Meant, Says, both, refused-means, head-means}
-use Rattle.frames.proofs.Meaning.{reads-mean, record-bytes}
+use Rattle.frames.proofs.Meaning.{last-one, reads-mean, record-bytes}
 
 -- ---- Start
 
@@ -226,12 +226,6 @@ cell-one c d h k e = at (c .present) (d .present) refl refl
     at true false p q = nothing (sym (rw (← p, ← q) at e))
     at false true p q = nothing (rw (← p, ← q) at e)
     at false false p q = h (sym p) ∙ sym (k (sym q))
-
-last-one : (p q : ℕ) → viewLast p ≡ viewLast q → p ≡ q
-last-one zero zero e = refl
-last-one zero (suc q) e = nothing e
-last-one (suc p) zero e = nothing (sym e)
-last-one (suc p) (suc q) e = let f : p ≡ q = cc in ap suc f
 
 pub determined : (s t : Shard) → Held s → Held t → viewShard s ≡ viewShard t → s ≡ t
 unfolding viewShard viewStore

@@ -4,7 +4,7 @@ use mathlib.Core.Path.{_≡_}
 use mathlib.Core.Bool.{false, _&&_}
 use mathlib.Core.List.{List, map}
 use mathlib.Core.Option.{Option, none, some}
-use Prim.Native.Nat.{ℕ, zero, suc}
+use Prim.Native.Nat.{ℕ}
 use lib.Dec.{T}
 use lib.ListN.{length}
 use Rattle.rules.specs.Lists.{if_then_else_, within}
@@ -13,7 +13,7 @@ use Rattle.rules.specs.Transactions as R
 use Rattle.rules.specs.Outcomes.{frameCount, byteCount, outAfter}
 use Rattle.rules.specs.Shard as S
 use Rattle.rules.specs.Kept.{ShardKept}
-use Rattle.frames.specs.View.{readItem, filled}
+use Rattle.frames.specs.View.{viewLast, readItem, filled}
 use Rattle.shard.specs.declared.Cell.{Cell}
 use Rattle.shard.specs.declared.Reads.{Reads}
 use Rattle.shard.specs.declared.Shard.{Shard}
@@ -27,11 +27,6 @@ viewCell c = if c.present then some (record { value = c.value; ind = c.«log_num
 
 unfoldable pub viewStore : List Cell → Store
 viewStore cells = λ key. viewCell (cellAt cells key)
-
--- the log number last run
-abbrev pub viewLast : ℕ → Option ℕ
-viewLast zero = none
-viewLast (suc ind) = some ind
 
 unfoldable pub viewShard : Shard → S.Shard
 viewShard s =
