@@ -2,7 +2,7 @@
 // for one call": each function copies the record out whole, hands it by value to the covered function of the record's own crate, stores
 // back what that gives, and answers what stood beside it. A start stores without looking at what was there.
 //
-// Each promise is whole, for every input and every bit pattern of a record: the answer, the record at exit and every byte of the out area
+// Each promise is whole, for every input and every value of a record: the answer, the record at exit and every byte of the out area
 // at exit. Beside it stands what that means in the rules' words, of a record that starts and calls have made (Held); and the promise once
 // more as a relation over memory before and after (specs/Promised.antt), of which proofs/Fresh.antt shows that a start depends on its setup
 // alone. include/register.h has the functions for C, and proofs/InMemory.antt how the records lie.
@@ -33,7 +33,7 @@ pub struct Stepped {
 
 // ---- A client session
 
-// Refusal 11. What the session held before is not looked at, and the promise does not speak of it.
+// Refusal 11. What the session held before is not looked at; the promise names it and says nothing of it.
 #[no_mangle]
 pub extern "C" fn session_start(s: &mut Session, client: u8) -> u8
     ensures { λ r. ⌜ (r ≡ startedOf client .answer) × (now (s .exit) ≡ startedOf client .session) ⌝ }
@@ -92,7 +92,7 @@ pub extern "C" fn session_response(s: &mut Session, frame: &[u8]) -> Reply
 
 // ---- A board
 
-// Refusal 11. What the board held before is not looked at, and the promise does not speak of it.
+// Refusal 11. What the board held before is not looked at; the promise names it and says nothing of it.
 #[no_mangle]
 pub extern "C" fn board_start(b: &mut Board, n: u8, m: u8, own: u8) -> u8
     ensures { λ r. ⌜ (r ≡ Boards.startOf n m own .answer) × (now (b .exit) ≡ Boards.startOf n m own .board) ⌝ }
@@ -126,7 +126,7 @@ pub extern "C" fn board_step(b: &mut Board, frame: &[u8], out: &mut [u8]) -> Ste
 
 // ---- A shard group
 
-// Refusal 11. What the shard group held before is not looked at, and the promise does not speak of it.
+// Refusal 11. What the shard group held before is not looked at; the promise names it and says nothing of it.
 #[no_mangle]
 pub extern "C" fn shard_start(s: &mut Shard, m: u8, own: u8) -> u8
     ensures { λ r. ⌜ (r ≡ Shards.startOf m own .answer) × (now (s .exit) ≡ Shards.startOf m own .shard) ⌝ }
