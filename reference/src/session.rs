@@ -52,6 +52,11 @@ impl Session {
         self.started
     }
 
+    /// The client whose session this is; 0 if the start was refused.
+    pub fn client(&self) -> u8 {
+        self.client
+    }
+
     /// The number the next invocation takes.
     pub fn next(&self) -> u16 {
         self.next

@@ -1,7 +1,10 @@
 //! Mixed runs of the second program, as definitions that the prover computes from the rules.
 //!
 //! The output is `crates/agreement/specs/Expected.antt`: for each run what was delivered to whom,
-//! what the second program answered and sent, and how its boards and shard groups then stood.
+//! what the second program answered and sent, and how its boards and shard groups then stood;
+//! then runs of sessions, call by call.
+
+mod sessions;
 
 use std::fmt::Write;
 
@@ -16,13 +19,14 @@ use reference::shard::Shard;
 use reference::sizes::OUT_AREA;
 
 const HEAD: &str = "\
--- What the second program answered, sent and held at the end, run by run. Written by its program `agreement`, never by hand.
+-- What the second program answered, sent and held, run by run and then call by call of a session. Written by its program `agreement`, never by hand.
 -- Assumes nothing.
 use mathlib.Core.List.{List, [], _∷_}
 use mathlib.Core.Option.{none, some}
 use Rattle.rules.specs.Transactions.{get, put}
 use Rattle.rules.specs.Board.{PRE, EXE}
 use Rattle.agreement.specs.Runs.{Run}
+use Rattle.agreement.specs.Calls.{Calls, start, invoke, retry, hear, asked, waits, stands, notStarted}
 ";
 
 /// A run: its name, the setup, and who is given which bytes.
@@ -40,10 +44,10 @@ fn main() {
         print_run(&mut text, index + 1, given);
     }
     let names = (1..=runs.len()).map(|index| format!("run{index}"));
-    print!(
-        "{text}\nabbrev pub runs : List Run\nruns = {}\n",
-        list(names)
-    );
+    writeln!(text, "\nabbrev pub runs : List Run\nruns = {}", list(names))
+        .expect("a String takes all");
+    sessions::print(&mut text);
+    print!("{text}");
 }
 
 // ---- The runs
@@ -189,9 +193,9 @@ fn by_hand() -> Vec<Given> {
         to_board(2, notif(1, 2, &[])),
     ];
 
-    // Acks lift the floor; a Submit below it is refused, a late Forward below it is served; a
-    // held number with other operations is refused and lifts nothing; an ack above what the
-    // sender's floor was is carried as the smaller of floor and number.
+    // Acks lift the floor, also of a held number; a Submit below it is refused, a late Forward
+    // below it is served; a held number with other operations is refused and lifts nothing; an
+    // ack above what the sender's floor was is carried as the smaller of floor and number.
     let third = submit(3, 2, 2, &[put(5, 3)]);
     let floors = vec![
         to_board(1, Frame::Submit(both[0])),
@@ -200,6 +204,9 @@ fn by_hand() -> Vec<Given> {
             1,
             Frame::Submit(submit(3, 1, 1, &[get(5), get(4), put(4, 8)])),
         ),
+        to_board(1, Frame::Submit(both[0])),
+        to_board(1, Frame::Submit(Submit { ack: 1, ..both[1] })),
+        to_board(1, Frame::Submit(both[0])),
         to_board(1, Frame::Submit(third)),
         to_board(1, Frame::Submit(both[1])),
         to_board(1, Frame::Submit(submit(3, 4, 3, &[get(1)]))),
@@ -339,13 +346,12 @@ fn print_run(text: &mut String, index: usize, given: &Given) {
 }
 
 fn list(items: impl Iterator<Item = String>) -> String {
-    let mut text = String::from("(");
-    for item in items {
-        text.push_str(&item);
-        text.push_str(" ∷ ");
+    let text: String = items.map(|item| item + " ∷ ").collect();
+    if text.is_empty() {
+        "[]".into()
+    } else {
+        format!("({text}[])")
     }
-    text.push_str("[])");
-    text
 }
 
 fn numbers(bytes: &[u8]) -> String {
@@ -356,19 +362,21 @@ fn option(value: Option<String>) -> String {
     value.map_or("none".into(), |value| format!("some {value}"))
 }
 
+fn operation_text(operation: &Operation) -> String {
+    if operation.is_get() {
+        format!("get {}", operation.key)
+    } else {
+        format!("put {} {}", operation.key, operation.value)
+    }
+}
+
+fn read_text(read: &Read) -> String {
+    let value = option(read.value.map(|value| value.to_string()));
+    format!("record {{ place = {}; value = {value} }}", read.place)
+}
+
 fn board_text(board: &Board, m: u8) -> String {
     let log = board.log().iter().map(|entry| {
-        let operation = |operation: &Operation| {
-            if operation.is_get() {
-                format!("get {}", operation.key)
-            } else {
-                format!("put {} {}", operation.key, operation.value)
-            }
-        };
-        let read = |read: &Read| {
-            let value = option(read.value.map(|value| value.to_string()));
-            format!("record {{ place = {}; value = {value} }}", read.place)
-        };
         let status = match entry.status {
             Status::Pre => "PRE",
             Status::Exe => "EXE",
@@ -377,8 +385,8 @@ fn board_text(board: &Board, m: u8) -> String {
             "record {{ write = record {{ client = {}; number = {}; operations = {} }}; status = {status}; reads = {}; remaining = {} }}",
             entry.client,
             entry.number,
-            list(entry.operations.iter().map(operation)),
-            list(entry.reads.iter().map(read)),
+            list(entry.operations.iter().map(operation_text)),
+            list(entry.reads.iter().map(read_text)),
             list(entry.remaining.iter().map(|shard| shard.to_string())),
         )
     });
