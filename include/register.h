@@ -26,7 +26,7 @@
  * Answers. 0: the step was taken. Its frames stand back to back from the first byte of the out area, the other bytes are untouched, and
  * the counts of frames and bytes are returned. A refusal returns its number, counts 0 and no reads, leaves the record as before (a refused
  * start: empty) and writes no byte of the out area. Where several refusals would apply, the one that its function below names first is
- * given.
+ * given. A frame that is refused may be dropped: what is missing is asked for again by session_retry.
  */
 #ifndef REGISTER_H
 #define REGISTER_H
@@ -49,7 +49,7 @@ enum {
     REGISTER_CLIENTS = 16,          /* clients 0..15 */
     REGISTER_LAST_NUMBER = 65534,   /* a client's write numbers: 0..65,534 */
     REGISTER_OPERATIONS = 4,        /* a transaction has 1..4 operations */
-    REGISTER_LOG = 256,             /* log numbers 0..255; a log holds at most 256 entries */
+    REGISTER_LOG = 256,             /* log numbers 0..255; a log holds at most 256 entries, and none is ever removed */
     REGISTER_WINDOW = 8,            /* a client's window: 8 numbers */
     REGISTER_OUT = 68,              /* an out area must have at least 68 bytes; no step sends more */
     REGISTER_FRAME = 38,            /* the longest frame, its length field included: ShardAppend with four operations */
@@ -211,7 +211,7 @@ uint8_t session_start(Session *s, uint8_t client);
  * Answers 0, or 11 (not started, or an out area under 68 bytes), 1 (the operation list), 10, 9. */
 Sent session_invoke(Session *s, Operations operations, uint8_t *out, size_t out_length);
 
-/* Sends Submit again with the kept operations and the present ack; the session stays as it is.
+/* Sends Submit again with the kept operations and the present ack; the session stays as it is. When to do so is yours: there are no timers.
  * Answers 0, or 11 (not started, or an out area under 68 bytes), 7 (the number is not outstanding). */
 Sent session_retry(Session *s, uint16_t number, uint8_t *out, size_t out_length);
 
