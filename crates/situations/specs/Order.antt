@@ -1,5 +1,6 @@
 -- "Order: 11, 1, 2, then ..": frames and calls for which two refusals have cause at once. Each row has the answer that is given then, and the
--- answer where only the later one has cause. Causes that exclude each other, as 4 and 5, have no row.
+-- answer where only the later one has cause. Two that follow each other in an order have a row, unless their causes exclude each other, as those of 4
+-- and 5 do; then the next that can have cause too.
 -- Assumes nothing.
 use mathlib.Core.List.{List, [], _∷_}
 use mathlib.Core.Option.{some}
@@ -100,6 +101,9 @@ rows =
     -- kinds 1 and 2: 1, 2, then 3, 4, 8 and 4, 8
     ∷ (1 before 4 of "Submit, ack rule" both atBoard (head []) (submit (write 8) 0) alone atBoard (head []) (submit (write 8) 1))
     ∷ (2 before 4 of "Submit at the tail" both atBoard (tail []) (submit (write 1) 0) alone atBoard (head []) (submit (write 1) 0))
+    ∷ (2 before 3 of "Submit at the tail"
+    both atBoard (tail (forward 0 (write 0) 0 ∷ forward 1 (write 1) 1 ∷ [])) (submit (write 0) 0)
+    alone atBoard (head (submit (write 0) 0 ∷ submit (write 1) 1 ∷ [])) (submit (write 0) 0))
     ∷ (3 before 8 of "Submit, other operations"
     both atBoard (head (submit (write 0) 0 ∷ submit (write 1) 1 ∷ [])) (submit (other 0) 0)
     alone atBoard (head (submit (write 0) 0 ∷ submit (write 1) 0 ∷ [])) (submit (other 0) 0))
