@@ -24,7 +24,7 @@ pub record Turn : Type 0 where
   pub reads : List Read
   pub session : C.Session
 
--- the session before the first call, and the calls
+-- the session before the first call, and the calls; it is not started, or stands where the second program's session came to by calls too many to list
 pub record Calls : Type 0 where
   pub from : C.Session
   pub turns : List Turn
