@@ -1,4 +1,4 @@
--- Wrong answers that the promises of this crate rule out: each is shown of the definition that the contract cites, for every bit pattern of a board.
+-- Wrong answers that the promises of this crate rule out: each is shown of the definition that the contract cites, for every value of a board.
 -- Assumes nothing.
 use mathlib.Core.Path.{_≡_, refl}
 use mathlib.Core.Bool.{false, _&&_}

@@ -1,4 +1,4 @@
--- What the code does with the records as they lie: every field and every byte, for every bit pattern.
+-- What the code does with the records as they lie: every field and every byte, for every value of a record.
 -- Assumes nothing.
 use mathlib.Core.Bool.{Bool, true, false, not, _&&_}
 use mathlib.Core.List.{List, [], _∷_, _++_}
