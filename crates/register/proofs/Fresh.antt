@@ -29,7 +29,7 @@ use Rattle.shard.specs.Model as Shards
 use Rattle.shard.specs.View.{viewShard}
 use Rattle.shard.proofs.Promises as Shards′
 use Rattle.register.specs.Given.{boardAnswer, shardAnswer}
-use Rattle.register.specs.Fresh.{Agent, Goes, Fresh, AllFresh, boards, shards, SessionCall, invoke, retry, response, SessionGiven, sends, replies, SessionDoes, sessions, JoinsNothing}
+use Rattle.register.specs.Fresh.{Agent, Goes, Run, Fresh, AllFresh, boards, shards, SessionCall, invoke, retry, response, SessionGiven, sends, replies, SessionDoes, sessions, JoinsNothing}
 
 -- ---- The law
 
@@ -39,6 +39,7 @@ record Functions (a : Agent) : Type 0 where
   starts : (before : a .Memory) (setup : a .Setup) (r : ℕ) (s : a .Memory) → a .Starts before setup r s → _≡_ {A = ℕ × a .Memory} (r, s) (start setup)
   call : a .Memory → a .Call → a .Given × a .Memory
   does : (s : a .Memory) (c : a .Call) (given : a .Given) (t : a .Memory) → a .Does s c given t → _≡_ {A = a .Given × a .Memory} (given, t) (call s c)
+  admits : (s : a .Memory) (c : a .Call) → a .Does s c (call s c .0) (call s c .1)
 
 module _ (a : Agent) (f : Functions a) where
   goes-alike : (s s′ : a .Memory) → s ≡ s′ → (calls : List (a .Call)) (xs xs′ : List (a .Given × a .Memory)) → Goes a s calls xs → Goes a s′ calls xs′ → xs ≡ xs′
@@ -52,8 +53,14 @@ module _ (a : Agent) (f : Functions a) where
       let rest = goes-alike t t′ (ap (λ (p : a .Given × a .Memory). p .1) same) cs xs xs′ (g .1) (g′ .1) in
       λ i. same i ∷ rest i
 
+  run-of : (s : a .Memory) (calls : List (a .Call)) → Run a s calls
+  run-of s [] = record { given = []; goes = tt }
+  run-of s (c ∷ cs) =
+      let rest = run-of (f .call s c .1) cs in
+      record { given = (f .call s c .0, f .call s c .1) ∷ rest .given; goes = (f .admits s c, rest .goes) }
+
   from-functions : Fresh a
-  from-functions = record { one-start = one; one-run = λ before before′ setup r r′ s s′ p p′ calls xs xs′ g g′. goes-alike s s′ (one before before′ setup r r′ s s′ p p′ .1) calls xs xs′ g g′ }
+  from-functions = record { runs = run-of; one-start = one; one-run = λ before before′ setup r r′ s s′ p p′ calls xs xs′ g g′. goes-alike s s′ (one before before′ setup r r′ s s′ p p′ .1) calls xs xs′ g g′ }
     where
       one : (before before′ : a .Memory) (setup : a .Setup) (r r′ : ℕ) (s s′ : a .Memory) → a .Starts before setup r s → a .Starts before′ setup r′ s′ → (r ≡ r′) × (s ≡ s′)
       one before before′ setup r r′ s s′ p p′ =
@@ -70,6 +77,7 @@ fresh-boards =
       starts = λ before u r s p i. (p .answers i, p .leaves i);
       call = λ s c. ((boardAnswer (Boards.stepOf s (c .0) (length (c .1))), Boards.outOf s (c .0) (c .1)), Boards.stepOf s (c .0) (length (c .1)) .board);
       does = λ s c given t p i. ((p .answers i, p .writes i), p .leaves i);
+      admits = λ s c. record { answers = refl; leaves = refl; writes = refl };
     })
 
 pub fresh-shards : Fresh shards
@@ -80,6 +88,7 @@ fresh-shards =
       starts = λ before u r s p i. (p .answers i, p .leaves i);
       call = λ s c. ((shardAnswer (Shards.stepOf s (c .0) (length (c .1))), Shards.outOf s (c .0) (c .1)), Shards.stepOf s (c .0) (length (c .1)) .shard);
       does = λ s c given t p i. ((p .answers i, p .writes i), p .leaves i);
+      admits = λ s c. record { answers = refl; leaves = refl; writes = refl };
     })
 
 called : Session → SessionCall → SessionGiven × Session
@@ -96,6 +105,12 @@ does-called s (invoke operations out) (replies r) t p = absurd p
 does-called s (retry number out) (replies r) t p = absurd p
 does-called s (response frame) (replies r) t p = λ i. (replies (p .answers i), p .leaves i)
 
+called-does : (s : Session) (c : SessionCall) → SessionDoes s c (called s c .0) (called s c .1)
+unfolding called
+called-does s (invoke operations out) = record { answers = refl; leaves = refl; writes = refl }
+called-does s (retry number out) = record { answers = refl; leaves = refl; writes = refl }
+called-does s (response frame) = record { answers = refl; leaves = refl }
+
 pub fresh-sessions : Fresh sessions
 fresh-sessions =
     from-functions sessions
@@ -104,6 +119,7 @@ fresh-sessions =
       starts = λ before client r s p i. (p .answers i, p .leaves i);
       call = called;
       does = does-called;
+      admits = called-does;
     })
 
 pub fresh : AllFresh

@@ -40,6 +40,11 @@ Goes a s [] (x ∷ xs) = ⊥
 Goes a s (c ∷ cs) [] = ⊥
 Goes a s (c ∷ cs) ((given, t) ∷ xs) = a .Does s c given t × Goes a t cs xs
 
+-- what some calls give and leave
+pub record Run (a : Agent) (s : a .Memory) (calls : List (a .Call)) : Type 0 where
+  pub given : List (a .Given × a .Memory)
+  pub goes : Goes a s calls given
+
 -- "What it leaves depends on its setup alone": two starts with one setup, whatever memory held before each, have one answer and leave one record; and
 -- the same calls then, any of them in any order and number, give the same and leave the same records.
 pub record Fresh (a : Agent) : Type 0 where
@@ -47,6 +52,8 @@ pub record Fresh (a : Agent) : Type 0 where
       → (r ≡ r′) × (s ≡ s′)
   pub one-run : (before before′ : a .Memory) (setup : a .Setup) (r r′ : ℕ) (s s′ : a .Memory) → a .Starts before setup r s → a .Starts before′ setup r′ s′
       → (calls : List (a .Call)) (xs xs′ : List (a .Given × a .Memory)) → Goes a s calls xs → Goes a s′ calls xs′ → xs ≡ xs′
+  -- and calls go, from any record, however many: what is said of runs is said of something
+  pub runs : (s : a .Memory) (calls : List (a .Call)) → Run a s calls
 
 -- ---- The three agents
 
