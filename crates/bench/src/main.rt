@@ -3,6 +3,8 @@
 // and one write for every 64 KB or so. No contract can say which bytes are read and written; what is proved here is that it is safe and ends.
 // Crate bench_means has these functions once more as one definition (specs/Program), and shows that what it writes is what 01 says of all that is read,
 // whatever each read gives. Whoever changes the one changes the other.
+#![tactic(auto)]
+
 ghost use Rattle.std.specs.Prelude.{◌≤◌, length};
 
 use delivery::Register;

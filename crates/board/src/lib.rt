@@ -6,6 +6,8 @@
 //
 // Each function's result is determined for every input by a function of specs/Model.antt. What a start and a step mean in the
 // rules' words is stated and proved in the crate board_means.
+#![tactic(auto)]
+
 ghost use Rattle.std.specs.Prelude.{◌≡◌, ◌<◌, max, length, take};
 ghost use Rattle.board.specs.Model.{empty_board, in_range, start_of, slot_of, name_of, position_of, place_of, followed_of, raised_of, queues_after, frames_of, step_of, out_of};
 ghost use Rattle.frames.specs.View.{Bytes};
@@ -20,7 +22,7 @@ use send::Sent;
 // entry's client and number in one word and its shards as a mask: find and count look at these and not at the whole log. Per client:
 // next, which is high + 1, and floor. Per shard: its queue. What lies past len, or belongs to no client or shard, is zero.
 #[repr(C)]
-#[derive(Drop)]
+#[derive(Clone, Copy)]
 pub struct Board {
     pub log: [Entry; 256],
     pub len: LogNumber,
@@ -35,13 +37,13 @@ pub struct Board {
     pub started: bool,
 }
 
-#[derive(Drop)]
+#[derive(Clone, Copy)]
 pub struct Started {
     pub board: Board,
     pub answer: u8,
 }
 
-#[derive(Drop)]
+#[derive(Clone, Copy)]
 pub struct Stepped {
     pub board: Board,
     pub answer: u8,

@@ -1,5 +1,7 @@
 // The situations of 01 that concern a board, played with the code. What main expects of B, C, D, F and I is proved from the promises of
 // start and step; J, a log of 256 entries, is run. The program prints what it saw.
+#![tactic(auto)]
+
 ghost use Rattle.std.specs.Prelude.{◌≡◌, ◌++◌, drop};
 ghost use Rattle.board_situations.specs.Expected.{seen_d, forward_a, seen_f, seen_i};
 
@@ -8,7 +10,7 @@ use board::Board;
 const STDOUT: i32 = 1;
 
 // Answers to B, to C, and to A twice; the log's length then.
-#[derive(Drop)]
+#[derive(Clone, Copy)]
 struct SeenD {
     b: u8,
     c: u8,
@@ -44,7 +46,7 @@ fn play_d(out: &mut [u8; 68], again: &mut [u8; 68]) -> SeenD
 }
 
 // The answer to ExecNotif 2, shard 1's queue and which entries are EXE then; the answer to ExecNotif 0, and the last taken number and 1 more.
-#[derive(Drop)]
+#[derive(Clone, Copy)]
 struct SeenF {
     first: u8,
     waiting: usize,
@@ -96,7 +98,7 @@ fn play_f() -> SeenF
     }
 }
 
-#[derive(Drop)]
+#[derive(Clone, Copy)]
 struct SeenI {
     first: u8,
     second: u8,

@@ -2,6 +2,8 @@
 // that its address names, and a line is laid for each; then the lines of the logs. Nothing here reads or writes a file.
 //
 // Each function's result is determined for every input by a function of specs/.
+#![tactic(auto)]
+
 ghost use Rattle.std.specs.Prelude.{◌≡◌, ◌++◌, ◌+◌, ◌≤◌, length, take, drop};
 ghost use Rattle.delivery.specs.Register.{board_at_start, shard_at_start, boards_of, shards_of, register_of};
 ghost use Rattle.delivery.specs.Delivery.{delivered, delivered_of, standing};
@@ -16,7 +18,7 @@ use shard::Shard;
 // ---- The register under test
 
 // Board i and shard group i stand at i - 1. Those above n and m are not started, and no address names them.
-#[derive(Drop)]
+#[derive(Clone, Copy)]
 pub struct Register {
     pub n: u8,
     pub m: u8,
@@ -82,7 +84,7 @@ pub fn start(n: u8, m: u8) -> Register
 // ---- Delivery
 
 // The register and the next record's index after some records; how many bytes of the input they were, and how many of the text their lines are.
-#[derive(Drop)]
+#[derive(Clone, Copy)]
 pub struct Delivered {
     pub register: Register,
     pub index: u64,

@@ -1,6 +1,8 @@
 // What a board keeps of a transaction: its operations, the shards that they touch, and the reads as they come in. Values
 // only, no board is in sight. Shards are numbered 1..8; a set of them is one byte, shard j at bit j - 1.
 // What each function means in the rules' words stands in specs/View.antt and is proved in proofs/Meaning.antt.
+#![tactic(auto)]
+
 ghost use Rattle.std.specs.Prelude.{◌≡◌, true, false, ◌≤◌};
 ghost use Rattle.entry.specs.Model.{bit_of, in_mask, insert_of, strike_of, is_empty_of, shard_number, touch_of, touched_of, no_part, with_of, part_on, gets_of, same_operation, same_operations_of, same_write_of, fits_of, keep_read, stored_of, answered_of, reads_held, no_entry, new_entry_of, heard_from_of, finished_of};
 
@@ -9,7 +11,7 @@ use frames::Item;
 // An entry of the log. items: the operations, each at its place. reads: slot p has what the get at place p saw, once its
 // shard was heard from; a slot without a read is zero. So reads stand by rising place, whichever answer came first.
 #[repr(C)]
-#[derive(Drop)]
+#[derive(Clone, Copy)]
 pub struct Entry {
     pub client: u8,
     pub number: u16,
@@ -21,7 +23,7 @@ pub struct Entry {
 }
 
 // Some items of a list, in their order: the first count. The slots behind them are zero.
-#[derive(Drop)]
+#[derive(Clone, Copy)]
 pub struct Part {
     pub count: u8,
     pub items: [Item; 4],

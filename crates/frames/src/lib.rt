@@ -1,4 +1,6 @@
 // Frames of the board chain, read from a slice and written into an out area. Nothing is allocated, and each byte is looked at a bounded number of times.
+#![tactic(auto)]
+
 ghost use Rattle.std.specs.Prelude.{◌≡◌, false, [], ◌∷◌, ◌++◌, ◌+◌, ◌*◌, ◌<◌, ◌≤◌, length, set};
 ghost use Rattle.rules.specs.Frames.{two, four, byte_at, two_at, four_at, decode};
 ghost use Rattle.frames.specs.Frames.{kind_of, field_bytes, field_width, shape_of, width, item_bytes, slot_bytes, list_bytes, header_bytes, len_of, ok_item, ok_items, ok_window, ok_head, valid, no_item, bad_frame, item_at, slot_at, slots, read_submit, read_forward, read_shard_append, read_exec_notif, read_executed, read_response, head_of, listed, body_at, candidate_of, no_front, accept, read_front, read_frame, Put, written_of, laid_of, end_of, laid_behind};
@@ -10,7 +12,7 @@ pub type LogNumber = u16;
 // One item of a list. An operation: code 0 get or 1 put, its place is its index. A placed operation: the same with its own place.
 // A read: code is `present`, 0 or 1, and the key is 0.
 #[repr(C)]
-#[derive(Drop)]
+#[derive(Clone, Copy)]
 pub struct Item {
     pub place: u8,
     pub code: u8,
@@ -19,7 +21,7 @@ pub struct Item {
 }
 
 // How an item lies in a frame.
-#[derive(Drop)]
+#[derive(Clone, Copy)]
 pub enum Shape {
     Operation,
     Placed,
@@ -27,7 +29,7 @@ pub enum Shape {
 }
 
 // The fields of each kind; Bad is refusal 1.
-#[derive(Drop)]
+#[derive(Clone, Copy)]
 pub enum Head {
     Bad,
     Submit {
@@ -60,7 +62,7 @@ pub enum Head {
 }
 
 // A frame: its fields and its list, the slots past the count zero.
-#[derive(Drop)]
+#[derive(Clone, Copy)]
 pub struct Frame {
     pub head: Head,
     pub count: u8,
@@ -68,7 +70,7 @@ pub struct Frame {
 }
 
 // The frame with which a slice begins, and where it ends; 0 if there is none.
-#[derive(Drop)]
+#[derive(Clone, Copy)]
 pub struct Front {
     pub frame: Frame,
     pub end: usize,

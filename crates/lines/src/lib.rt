@@ -1,6 +1,8 @@
 // The lines that the bench program writes (01, "The bench program"), as bytes. Each function lays one line from the first byte of an area, leaves
 // the other bytes as they were, and answers how many bytes the line has. An area of less than 128 bytes takes no line: it stays as it was, and the
 // answer is 0. Every line ends with one newline.
+#![tactic(auto)]
+
 ghost use Rattle.std.specs.Prelude.{◌∷◌, [], length, ◌+◌, ◌<◌, ◌≤◌};
 ghost use Rattle.lines.specs.Text.{decimal_of, field_of, state_of, header_line, d_line, l_line, cut_line, setup_line};
 ghost use Rattle.lines.specs.Area.{Laid, Put};

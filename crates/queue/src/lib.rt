@@ -1,5 +1,7 @@
 // A shard's queue at a board: the log numbers that wait, and the last one taken from it.
 // What each function means in the rules' words stands in specs/View.antt and is proved in proofs/Meaning.antt.
+#![tactic(auto)]
+
 ghost use Rattle.std.specs.Prelude.{◌≡◌, ◌+◌, ◌≤◌};
 ghost use Rattle.queue.specs.Model.{no_queue, waiting, pushed_of, up_to, last_of, left_of, taken_of, changed_of, changed_all};
 
@@ -8,7 +10,7 @@ use frames::LogNumber;
 // "a first-in first-out queue of at most 256 log numbers, and the last number taken from it": the first len of numbers
 // wait, the slots behind them are zero, and taken is one more than the last number taken, 0 for none.
 #[repr(C)]
-#[derive(Drop)]
+#[derive(Clone, Copy)]
 pub struct Queue {
     pub numbers: [LogNumber; 256],
     pub len: usize,

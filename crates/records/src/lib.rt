@@ -1,6 +1,8 @@
 // What a bench input holds (01, "The bench program"): n and m, then records, each of an address byte and a frame. Here it is only taken apart.
 //
 // Each function's result is determined for every input by a function of specs/.
+#![tactic(auto)]
+
 ghost use Rattle.std.specs.Prelude.{◌≡◌, length};
 ghost use Rattle.records.specs.Records.{usable_of, next_of, receiver_of};
 ghost use Rattle.records.specs.Front.{part_length, front_of};
@@ -13,7 +15,7 @@ pub fn usable(n: u8, m: u8) -> bool
 }
 
 // What stands at the front of some bytes.
-#[derive(Drop)]
+#[derive(Clone, Copy)]
 pub enum Next {
     // A record: its address, and where it ends. Its frame is what lies between.
     Record { address: u8, end: usize },
@@ -43,7 +45,7 @@ pub fn record_at(s: &[u8]) -> Next
 }
 
 // Whom an address names. Board i and shard i stand at i - 1.
-#[derive(Drop)]
+#[derive(Clone, Copy)]
 pub enum Receiver {
     Board(usize),
     Shard(usize),

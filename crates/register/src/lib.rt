@@ -6,6 +6,8 @@
 // at exit. Beside it stands what that means in the rules' words, of a record that starts and calls have made (Held); and the promise once
 // more as a relation over memory before and after (specs/Promised.antt), of which proofs/Fresh.antt shows that a start depends on its setup
 // alone. include/register.h has the functions for C, and proofs/InMemory.antt how the records lie.
+#![tactic(auto)]
+
 ghost use Rattle.std.specs.Prelude.{◌≡◌, length};
 ghost use Rattle.session.specs.Model.{started_of, invoked_of, invoke_out, retried_of, retry_out, responded_of};
 ghost use Rattle.session.specs.View as SessionView;
@@ -22,7 +24,7 @@ use shard::Shard;
 
 // The answer of a board's step and of a shard group's: a refusal's number or 0, and "the counts of frames and bytes".
 #[repr(C)]
-#[derive(Drop)]
+#[derive(Clone, Copy)]
 pub struct Stepped {
     pub answer: u8,
     pub frames: u8,

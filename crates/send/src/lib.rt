@@ -1,6 +1,8 @@
 // The frames that an entry of the log now makes its board send, written back to back. Of the board only what is needed is
 // handed over, so that none is copied.
 // They are the rules' `onward`, in number and in every byte: `send_means` in proofs/Meaning.antt.
+#![tactic(auto)]
+
 ghost use Rattle.std.specs.Prelude.{◌≡◌, ◌+◌, ◌≤◌, min, length, take};
 ghost use Rattle.rules.specs.Lists.{if◌then◌else◌};
 ghost use Rattle.send.specs.Model.{Sends, Goes, count_in, backward_of, forward_frame, append_frame, appends_to, send_parts};
@@ -9,7 +11,7 @@ use entry::{Entry, Part};
 use frames::{Frame, Head, LogNumber};
 
 // How many frames were sent, and how many bytes they are.
-#[derive(Drop)]
+#[derive(Clone, Copy)]
 pub struct Sent {
     pub frames: u8,
     pub bytes: usize,

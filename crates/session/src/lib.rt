@@ -1,6 +1,8 @@
 // A client session, by value: start, invoke, retry and the step on a Response. Each gives back the session as it then stands, and beside
 // it the answer. What is promised is every field and every byte of the out area, whatever the session's bits; and, of a session that is held,
 // as every start gives it and every call keeps it, that they mean the rules' call.
+#![tactic(auto)]
+
 ghost use Rattle.std.specs.Prelude.{◌≡◌, ◌<◌, length};
 ghost use Rattle.session.specs.Model.{started_of, kept_item, items_of, submit_frame, sent_of, refused_of, declined_of, heard_of, invoked_of, invoke_out, retried_of, retry_out, responded_of};
 ghost use Rattle.session.specs.View.{Held, Sized, StartMeans, InvokeMeans, RetryMeans, ResponseMeans};
@@ -11,7 +13,7 @@ use window::Window;
 
 // An operation as it is asked for: "0 get or 1 put (1), key (1), value (4; 0 for get)".
 #[repr(C)]
-#[derive(Drop)]
+#[derive(Clone, Copy)]
 pub struct Asked {
     pub code: u8,
     pub key: u8,
@@ -20,7 +22,7 @@ pub struct Asked {
 
 // The list handed to invoke: the first count operations. What lies behind them is neither looked at nor kept.
 #[repr(C)]
-#[derive(Drop)]
+#[derive(Clone, Copy)]
 pub struct Operations {
     pub count: u8,
     pub items: [Asked; 4],
@@ -28,14 +30,14 @@ pub struct Operations {
 
 // "It holds the next number and each outstanding number with its operations"; the client, and whether the start was taken.
 #[repr(C)]
-#[derive(Drop)]
+#[derive(Clone, Copy)]
 pub struct Session {
     pub window: Window,
     pub client: u8,
     pub started: bool,
 }
 
-#[derive(Drop)]
+#[derive(Clone, Copy)]
 pub struct Started {
     pub session: Session,
     pub answer: u8,
@@ -43,7 +45,7 @@ pub struct Started {
 
 // The answer of invoke and retry: the number that Submit carries, and the counts of frames and bytes. Of a refusal all but the answer is 0.
 #[repr(C)]
-#[derive(Drop)]
+#[derive(Clone, Copy)]
 pub struct Sent {
     pub answer: u8,
     pub number: u16,
@@ -51,7 +53,7 @@ pub struct Sent {
     pub bytes: usize,
 }
 
-#[derive(Drop)]
+#[derive(Clone, Copy)]
 pub struct Submitted {
     pub session: Session,
     pub sent: Sent,
@@ -59,7 +61,7 @@ pub struct Submitted {
 
 // The answer of a Response step: the number answered, and its reads, the first count of them. Of a refusal all but the answer is 0.
 #[repr(C)]
-#[derive(Drop)]
+#[derive(Clone, Copy)]
 pub struct Reply {
     pub answer: u8,
     pub number: u16,
@@ -67,7 +69,7 @@ pub struct Reply {
     pub reads: [Item; 4],
 }
 
-#[derive(Drop)]
+#[derive(Clone, Copy)]
 pub struct Responded {
     pub session: Session,
     pub reply: Reply,

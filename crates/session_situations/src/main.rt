@@ -1,11 +1,13 @@
 // Situations H and K of 01, played with the code: client 3 invokes and is answered, and the program prints what it saw.
+#![tactic(auto)]
+
 use frames::{Frame, Head};
 use session::{Asked, Operations, Responded, Session};
 
 const STDOUT: i32 = 1;
 
 // What an invocation gave: the answer, the number, and the ack that stands in Submit.
-#[derive(Drop)]
+#[derive(Clone, Copy)]
 struct Seen {
     session: Session,
     answer: u8,

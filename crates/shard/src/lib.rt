@@ -1,5 +1,7 @@
 // A shard group, by value: its cells, its start and its step. What the functions do stands in specs/Model.antt, what that
 // means in the rules' words in specs/View.antt, and what follows of every start and step in proofs/Promises.antt.
+#![tactic(auto)]
+
 ghost use Rattle.std.specs.Prelude.{◌≡◌, true, false, ◌≤◌, length, take};
 ghost use Rattle.shard.specs.Model.{empty_shard, start_of, mine, all_mine, refused, judge, read_of, no_reads, noted, cell_after, exec_notif, step_of, out_of};
 ghost use Rattle.shard.specs.View.{Held, StartMeans, StepMeans};
@@ -12,7 +14,7 @@ const LEAST_OUT: usize = 68;
 // What the group has for a key: the value last put and the log number that put it. A key never put is absent, and its cell
 // is zero. In this order of fields a cell is 8 bytes.
 #[repr(C)]
-#[derive(Drop)]
+#[derive(Clone, Copy)]
 pub struct Cell {
     pub value: u32,
     pub log_number: LogNumber,
@@ -21,7 +23,7 @@ pub struct Cell {
 
 // Shard group own of m, a cell for each key. last_run is 1 more than the log number last run, and 0 where none was.
 #[repr(C)]
-#[derive(Drop)]
+#[derive(Clone, Copy)]
 pub struct Shard {
     pub cells: [Cell; 256],
     pub ssn: u16,
@@ -32,14 +34,14 @@ pub struct Shard {
 }
 
 // What a start gives: the group, and 0, or 11 with every field of the group empty and the group not started.
-#[derive(Drop)]
+#[derive(Clone, Copy)]
 pub struct Started {
     pub shard: Shard,
     pub answer: u8,
 }
 
 // What a step gives: the group as it then stands, the answer, and how many frames and bytes stand in the out area.
-#[derive(Drop)]
+#[derive(Clone, Copy)]
 pub struct Stepped {
     pub shard: Shard,
     pub answer: u8,
@@ -48,7 +50,7 @@ pub struct Stepped {
 }
 
 // The answer to a frame; where it is 0, the log number and sn of the ShardAppend that the frame is.
-#[derive(Drop)]
+#[derive(Clone, Copy)]
 struct Verdict {
     answer: u8,
     log_number: LogNumber,
@@ -56,7 +58,7 @@ struct Verdict {
 }
 
 // The reads of the gets that have run, in their order.
-#[derive(Drop)]
+#[derive(Clone, Copy)]
 struct Reads {
     count: u8,
     items: [Item; 4],

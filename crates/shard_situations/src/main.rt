@@ -1,11 +1,13 @@
 // Situations E and G of 01, played with the code. What main expects is proved from the promises of start and step, and the
 // program prints what it saw.
+#![tactic(auto)]
+
 ghost use Rattle.std.specs.Prelude.{◌≡◌, ◌++◌, drop};
 ghost use Rattle.shard_situations.specs.Expected.{answers_e, sent_g};
 
 const STDOUT: i32 = 1;
 
-#[derive(Drop)]
+#[derive(Clone, Copy)]
 struct Answers {
     first: u8,
     second: u8,

@@ -1,6 +1,8 @@
 // Runs the vectors of the frames: each line of the input is a frame's bytes as hexadecimal digits and a text behind them; the line is
 // written again with an answer in place of the digits. 0: the bytes are read as a frame, and every way of writing it gives them again.
 // 1: they are refused. 9: something of that fails.
+#![tactic(auto)]
+
 ghost use Rattle.std.specs.Prelude.{◌≤◌, length};
 
 use frames::{Frame, Head};

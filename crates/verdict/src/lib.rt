@@ -1,6 +1,8 @@
 // What a frame comes to at a board: the refusal that 01's table gives first, or the entry that the frame is about, as it then stands.
 // All is decided here on small parts, an entry, the client's floor and next number, the log's length; no board is in sight.
 // Each function's result is determined for every input by a function of specs/Model.antt.
+#![tactic(auto)]
+
 ghost use Rattle.std.specs.Prelude.{◌≡◌, true, false};
 ghost use Rattle.verdict.specs.Model.{next_of, floor_of, refuse_of, new_of, held_of, judge_submit, judge_forward, judge_exec_notif, judge_executed, judge_of};
 
@@ -9,7 +11,7 @@ use frames::{Head, Item, LogNumber};
 
 // What a frame comes to: a refusal's number; or 0, with the entry that the frame is about as it then stands, the log's length then,
 // the shards whose queues change, the ack that may raise the client's floor (0 raises none), and whether the entry is sent on.
-#[derive(Drop)]
+#[derive(Clone, Copy)]
 pub struct Verdict {
     pub answer: u8,
     pub entry: Entry,

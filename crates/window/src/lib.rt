@@ -1,5 +1,7 @@
 // The window of a client session, as a value: the next number, and each outstanding number with its operations. A method hands the window
 // back. What the methods mean in the rules' words is in specs/View.antt and proved in proofs/Means.antt.
+#![tactic(auto)]
+
 ghost use Rattle.std.specs.Prelude.{◌≡◌};
 ghost use Rattle.window.specs.Model.{waits, free, oldest, least_of, kept_of, answered_of, denied, invoked_of, fresh_window};
 
@@ -8,7 +10,7 @@ use frames::Item;
 // An outstanding number with its operations, as a frame carries them: count of them, 1 to 4, and zero behind these.
 // A slot with count 0 is free, and is zero throughout.
 #[repr(C)]
-#[derive(Drop)]
+#[derive(Clone, Copy)]
 pub struct Slot {
     pub number: u16,
     pub count: u8,
@@ -18,21 +20,21 @@ pub struct Slot {
 // A number's slot is number mod 8: next minus the smallest outstanding number is at most 8, so no two numbers want one slot.
 // next is 65,535 when the numbers are used up.
 #[repr(C)]
-#[derive(Drop)]
+#[derive(Clone, Copy)]
 pub struct Window {
     pub next: u16,
     pub slots: [Slot; 8],
 }
 
 // A window with its smallest outstanding number.
-#[derive(Drop)]
+#[derive(Clone, Copy)]
 pub struct Least {
     pub window: Window,
     pub number: u16,
 }
 
 // A window after an invocation, the answer, and the number that was taken; of a refusal the window as before, and 0.
-#[derive(Drop)]
+#[derive(Clone, Copy)]
 pub struct Invoked {
     pub window: Window,
     pub answer: u8,
