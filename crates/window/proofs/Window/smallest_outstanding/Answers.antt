@@ -1,7 +1,7 @@
 -- The first outstanding number of those passed so far is what is looked for: the search goes on where a number is not outstanding.
 -- Assumes nothing.
-use mathlib.Core.Path.{◌≡◌, refl, ap, sym, ◌∙◌}
-use Prim.Native.Nat.{ℕ, ◌≤◌, ◌-◌}
+use mathlib.Core.Path.{refl, ap, sym, ◌∙◌}
+use Prim.Native.Nat.{ℕ, ◌-◌}
 use Rattle.window.proofs.Search.{first_here, first_past, first_none}
 use Rattle.window.specs.Model.{is_outstanding, first_from, smallest_of, least_of}
 use borrow.Author.Rules.{rules}

@@ -1,7 +1,7 @@
 -- The first outstanding number of those passed so far is what is looked for: the search goes on where a number is not outstanding.
 -- Assumes nothing.
 use mathlib.Core.Path.{◌≡◌}
-use Prim.Native.Nat.{ℕ, ◌≤◌, ◌-◌}
+use Prim.Native.Nat.{◌≤◌, ◌-◌}
 use Rattle.window.specs.Model.{first_from, smallest_of}
 use Rattle.window.proofs.Window.smallest_outstanding.Given as goal
 
