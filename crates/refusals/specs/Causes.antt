@@ -8,7 +8,6 @@ use Rattle.rules.specs.Answers.{done, breaks_rule, not_for_me, below_floor, too_
 use Rattle.rules.specs.Transactions.{Operation, Write, placed, on_shard, same_write}
 use Rattle.rules.specs.Frames.{Frame, submit, forward, shard_append, exec_notif, executed, response, ok_operations, decode}
 use Rattle.rules.specs.Outcomes.{unusable}
-use Rattle.rules.specs.Board as B
 use Rattle.rules.specs.Board.{Entry, Board, is_exe, log_size, writes, next_number, find, fits}
 use Rattle.rules.specs.Shard.{Shard, all_mine}
 use Rattle.rules.specs.Session.{Session, Asked, all_meant, smallest, window_size, operations_of}

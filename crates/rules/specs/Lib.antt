@@ -6,7 +6,7 @@
 --   and differ only in whether a proof opens the definition by itself;
 --   `[]` is the empty list, `x ∷ xs` the list that begins with x, `xs ++ ys` one list behind the other, `snoc xs x` x at the end;
 --   `length xs` is how many it has, `set xs i x` is xs with x at i, `drop k xs` is xs without its first k, `map f xs` is f of each;
---   `x.f` or `x.f` is the field f of the record x, `record { f = .. }` the record with these fields;
+--   `x.f` is the field f of the record x, `record { f = .. }` the record with these fields;
 --   `none` says that there is nothing, `some x` that there is x; `at xs i` is what stands at i, counted from 0, none past the end;
 --   `<?`, `≤?`, `=?` are tests, true or false, and so are names that begin with ok; `within low high x` is low ≤ x ≤ high;
 --   `&&` is and, `||` is or, `not` is not; `suc x` is x + 1, `x / y` and `x % y` are the whole quotient and the remainder;
