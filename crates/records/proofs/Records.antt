@@ -60,6 +60,11 @@ module _ (n m a : ℕ) where
   unfolding receiver_of if◌then◌else◌
   names_nobody_high h = rw (le-leb 1 a (omega arith), lt-leb a 8 (omega arith), le-leb 17 a (omega arith), lt-leb a 24 h)
 
+-- what `record_at` and `named` are proved by
+pub ruleset next_laws = (next_short, next_cut, next_part, next_record)
+
+pub ruleset names_laws = (names_board, names_no_board, names_shard, names_no_shard, names_nobody_low, names_nobody_between, names_nobody_high)
+
 -- a record has an address byte and a length, and lies within the bytes
 pub record-inside : (s : List ℕ) (address end : ℕ) → next_of s ≡ Record address end → (3 ≤ end) × (end ≤ length s)
 unfolding next_of if◌then◌else◌
