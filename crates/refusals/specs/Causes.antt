@@ -3,7 +3,7 @@
 -- Assumes nothing.
 use Rattle.std.specs.Prelude.{Bool, true, false, not, ◌&&◌, List, [], ◌∷◌, ℕ, ◌+◌, length}
 use Rattle.std.proofs.Math.Option.{Option, none, some}
-use Rattle.rules.specs.Lists.{if◌then◌else◌, ◌<?◌, ◌≤?◌, ◌=?◌, at, below, has}
+use Rattle.rules.specs.Lists.{If◌then◌else◌, ◌<?◌, ◌≤?◌, ◌=?◌, at, below, has}
 use Rattle.rules.specs.Answers.{done, breaks_rule, not_for_me, below_floor, too_early, log_full, not_in_log, too_late, does_not_fit, window_full, numbers_used_up, not_usable}
 use Rattle.rules.specs.Transactions.{Operation, Write, placed, on_shard, same_write}
 use Rattle.rules.specs.Frames.{Frame, submit, forward, shard_append, exec_notif, executed, response, ok_operations, decode}
@@ -22,7 +22,7 @@ number when applies = record { number = number; applies = applies }
 
 abbrev pub first : List Cause → ℕ
 first [] = done
-first (c ∷ cs) = if c.applies then c.number else first cs
+first (c ∷ cs) = If c.applies then c.number else first cs
 
 -- there is something, and it passes a test
 abbrev pub such : {A : Type 0} → (A → Bool) → Option A → Bool
