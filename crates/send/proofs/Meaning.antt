@@ -155,12 +155,14 @@ module _ (b : B.Board) (es : List Entry) (e : Entry) (n m own floor ind : ℕ) (
   unfolding append_at append_frame shard_append_of meaning view_entry write_of
   append_means j =
       let sn : touching m j (writes b.log) (suc ind) ≡ count_in j (take (ind + 1) masks) =
-      rw (p.log_is, add-one ind) (count_means m p.low p.high j es masks (suc ind) p.inside p.masks_are) in
-      rw (p.m_is, sn) (
+      ap (λ (log : List B.Entry). touching m j (writes log) (suc ind)) p.log_is ∙ rw (add-one ind) (count_means m p.low p.high j es masks (suc ind) p.inside p.masks_are) in
+      let sent : some (shard_append_of b ind view.write j) ≡ some (shard_append j ind (count_in j (take (ind + 1) masks)) (on_shard m j view.write.operations)) =
+      ap (λ (k : ℕ). some (shard_append j ind (touching k j (writes b.log) (suc ind)) (on_shard k j view.write.operations))) p.m_is
+      ∙ ap (λ (n : ℕ). some (shard_append j ind n (on_shard m j view.write.operations))) sn in (
         (
           part_right m j e.count e.items p.held.items,
           ap (λ xs. some (shard_append j ind (count_in j (take (ind + 1) masks)) xs))
-              (part_view m j e.count e.items p.low p.held.canon (enough 0 e.count e.items p.held.items)),
+              (part_view m j e.count e.items p.low p.held.canon (enough 0 e.count e.items p.held.items)) ∙ sym sent,
         ),
         tt,
       )
