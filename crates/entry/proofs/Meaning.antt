@@ -23,7 +23,7 @@ use Rattle.frames.proofs.Round.{enough}
 use Rattle.entry.specs.declared.Entry.{Entry}
 use Rattle.entry.specs.Model.{beside, is_on, chosen, part_on, agree, same_operation, same_operations_of, same_place, fits_of, same_write_of}
 use Rattle.entry.specs.Model as M
-use Rattle.entry.specs.View.{write_of, is_get}
+use Rattle.entry.specs.View.{write_of}
 use Rattle.entry.proofs.Slots.{part_take}
 use Rattle.entry.proofs.Sets.{iff, shard_number_lem}
 

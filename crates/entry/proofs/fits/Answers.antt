@@ -1,8 +1,6 @@
 -- `fits` meets its contract: the gets as a part, compared slot by slot, are two lists of places compared (fits_slots).
 -- Assumes nothing.
-use mathlib.Core.Path.{◌≡◌}
 use Rattle.entry.proofs.Slots.{fits_slots}
-use lib.ListN.{length}
 use borrow.Author.Rules.{rules}
 use Rattle.entry.proofs.fits.Goals as goal
 

@@ -1,7 +1,5 @@
 -- `gets_of` meets its contract: the four slots are the list of the first count (beside_slots).
 -- Assumes nothing.
-use lib.ListN.{length}
-use mathlib.Core.Path.{◌≡◌}
 use Rattle.entry.specs.Model.{gets_of, is_get}
 use Rattle.entry.proofs.Slots.{beside_slots}
 use borrow.Author.Rules.{rules}

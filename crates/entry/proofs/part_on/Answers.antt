@@ -1,7 +1,5 @@
 -- `part_on` meets its contract: the four slots are the list of the first count (beside_slots).
 -- Assumes nothing.
-use lib.ListN.{length}
-use mathlib.Core.Path.{◌≡◌}
 use Rattle.entry.specs.Model.{part_on, is_on}
 use Rattle.entry.proofs.Slots.{beside_slots}
 use borrow.Author.Rules.{rules}

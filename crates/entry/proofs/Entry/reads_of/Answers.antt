@@ -1,10 +1,7 @@
 -- `reads_of` meets its contract: the four slots are the list of the first count (beside_slots).
 -- Assumes nothing.
-use lib.ListN.{length}
-use mathlib.Core.Path.{◌≡◌}
 use Rattle.entry.specs.Model.{reads_held, answered_of}
 use Rattle.entry.proofs.Slots.{beside_slots}
-use lib.ListN.{length-map}
 use borrow.Author.Rules.{rules}
 use Rattle.entry.proofs.Entry.reads_of.Goals as goal
 
