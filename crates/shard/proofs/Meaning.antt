@@ -22,7 +22,6 @@ use Rattle.rules.proofs.Lists.{and_l, and_r}
 use Rattle.frames.specs.declared.Item.{Item}
 use Rattle.frames.specs.declared.Head.{Head}
 use Rattle.frames.specs.declared.Head.TheVariants.{Bad, Submit, Forward, ShardAppend, ExecNotif, Executed, Response}
-use Rattle.frames.specs.declared.Frame.{Frame}
 use Rattle.frames.specs.View.{view_last, as_operation, as_placed, meant, record_of}
 use Rattle.frames.proofs.Items.{key_of_lem}
 use Rattle.shard.specs.declared.Shard.{Shard}

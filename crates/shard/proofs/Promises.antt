@@ -2,7 +2,7 @@
 -- changes nothing; a promise admits one outcome; and a group is determined by what it means.
 -- Assumes nothing.
 use mathlib.Core.Path.{◌≡◌, refl, sym, ap, ◌∙◌}
-use mathlib.Core.Bool.{Bool, true, false, not, ◌&&◌}
+use mathlib.Core.Bool.{Bool, true, false, ◌&&◌}
 use mathlib.Core.List.{List, [], ◌∷◌, ◌++◌, map}
 use mathlib.Core.Option.{none}
 use Prim.Native.Nat.{ℕ, zero, suc, ◌≤◌}
@@ -24,7 +24,6 @@ use Rattle.rules.proofs.Frames.{decode_spells}
 use Rattle.rules.proofs.Shard.{start_good, step_good}
 use Rattle.rules.proofs.Steps.{ready}
 use Rattle.frames.specs.declared.Item.{Item}
-use Rattle.frames.specs.declared.Frame.{Frame}
 use Rattle.frames.specs.Frames.{read_frame, frames_bytes}
 use Rattle.frames.specs.View.{meaning, record_of, Bytes}
 use Rattle.shard.specs.declared.Cell.{Cell}

@@ -1,7 +1,6 @@
 -- A refused step gives the group back; a taken one runs the list, an operation a turn, and what is left to run leads where the whole list leads.
 use mathlib.Core.Path.{sym, ◌∙◌, refl, ap}
 use native.Mathlib.Omega.{arith}
-use lib.ListN.{length-map}
 use Rattle.frames.specs.View.{meaning}
 use Rattle.shard.proofs.Fits.{few_of}
 use Rattle.shard.proofs.Ways.{along_on, out_refused, out_ran}
