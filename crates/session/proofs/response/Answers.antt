@@ -1,7 +1,7 @@
 -- The kind decides: a Response is heard, a frame that breaks a rule is refused by 1, every other kind by 2.
 -- Assumes nothing.
 use mathlib.Core.Path.{sym, ◌∙◌}
-use Rattle.rules.specs.Lists.{if◌then◌else◌}
+use Rattle.rules.specs.Lists.{If◌then◌else◌}
 use Rattle.session.specs.Model.{responded_of}
 use native.Mathlib.Omega.{arith}
 use borrow.Author.Rules.{rules}
@@ -10,7 +10,7 @@ use Rattle.session.proofs.Ways.{by_kind, other_kind}
 use Rattle.session.proofs.response.Goals as goal
 
 pub returns-then-not-s-clause-value : goal.returns-then-not-s-clause-value
-unfolding responded_of if◌then◌else◌
+unfolding responded_of If◌then◌else◌
 returns-then-not-s-clause-value c = simp (c.declined.ensures, c.if-not-s.true)
 
 pub returns-then-not-s-clause-response_means : goal.returns-then-not-s-clause-response_means
