@@ -1,7 +1,7 @@
 -- What a start and a step give, on the records as they lie: the answer, every field and element of the board, the frames sent and
 -- every byte of the out area, for every input. What it means in the rules' words is in View.
 -- Assumes nothing.
-use Rattle.std.specs.Prelude.{Bool, true, false, not, ◌&&◌, List, [], ◌∷◌, ℕ, suc, ◌+◌, ◌*◌, ◌%◌, max, length, get_or, set, take, replicate}
+use Rattle.std.specs.Prelude.{Bool, true, false, ◌&&◌, List, [], ◌∷◌, ℕ, suc, ◌+◌, ◌*◌, ◌%◌, max, length, get_or, set, take, replicate}
 use Rattle.rules.specs.Lists.{If◌then◌else◌, ◌<?◌, ◌=?◌, within}
 use Rattle.rules.specs.Answers.{done, not_usable}
 use Rattle.rules.specs.Outcomes.{unusable}

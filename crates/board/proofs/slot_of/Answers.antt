@@ -2,12 +2,8 @@
 use mathlib.Core.Path.{refl}
 use Rattle.board.specs.Model.{slot_of}
 use borrow.Author.Rules.{rules}
-use Rattle.board.proofs.slot_of.Statement.{statement}
-use Rattle.board.proofs.slot_of.Tie as tie
+use Rattle.board.proofs.slot_of.Goals as goal
 
-returns : tie.Need-returns
+pub returns : goal.returns
 unfolding slot_of
 returns c = (refl, search rules)
-
-pub slot-of-spec : {M : Type 1} → statement M
-slot-of-spec = tie.close (tie.spec (λ c. search rules) returns)
