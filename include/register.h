@@ -1,5 +1,5 @@
 /* The register of the board chain, for firmware in C: boards hold the log, shard groups hold the keys, sessions are the lift
- * controllers' side. Link with libregister.a (rt staticlib register).
+ * controllers' side. Link with libregister.a (.ci/archive makes it).
  *
  * Each record belongs to your program, which lends it for one call. The library keeps nothing between calls, allocates nothing, and calls
  * nobody but memcpy and memset, which your program must have. So calls that share no record and no area may run at the same time. What

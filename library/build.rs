@@ -1,4 +1,4 @@
-//! Links the proved library, `libregister.a`, which `rt staticlib register` writes.
+//! Links the proved library, `libregister.a`, which `.ci/archive` writes.
 
 use std::env;
 use std::path::PathBuf;
@@ -17,7 +17,7 @@ fn main() {
     println!("cargo:rerun-if-changed={}", archive.display());
     if !archive.is_file() {
         eprintln!("error: {} is missing", archive.display());
-        eprintln!("       make it with `rt staticlib register`, or name its folder in {FOLDER}");
+        eprintln!("       make it with `.ci/archive`, or name its folder in {FOLDER}");
         std::process::exit(1);
     }
     println!("cargo:rustc-link-search=native={}", folder.display());

@@ -21,12 +21,12 @@ use reference::sizes::OUT_AREA;
 const HEAD: &str = "\
 -- What the second program answered, sent and held, run by run and then call by call of a session. Written by its program `agreement`, never by hand.
 -- Assumes nothing.
-use mathlib.Core.List.{List, [], _∷_}
-use mathlib.Core.Option.{none, some}
-use Rattle·rules.specs.Transactions.{get, put}
-use Rattle·rules.specs.Board.{PRE, EXE}
-use Rattle·agreement·specs.specs.Runs.{Run}
-use Rattle·agreement·specs.specs.Calls.{Calls, start, invoke, retry, hear, asked, waits, stands, notStarted}
+use Rattle.std.specs.Prelude.{List, [], ◌∷◌}
+use Rattle.std.proofs.Math.Option.{none, some}
+use Rattle.rules.specs.Transactions.{get, put}
+use Rattle.rules.specs.Board.{PRE, EXE}
+use Rattle.agreement.specs.Runs.{Run}
+use Rattle.agreement.specs.Calls.{Calls, start, invoke, retry, hear, asked, waits, stands, not_started}
 ";
 
 /// A run: its name, the setup, and who is given which bytes.
@@ -394,7 +394,7 @@ fn board_text(board: &Board, m: u8) -> String {
     let queues = (1..=m).map(|shard| {
         let queue = board.queue(shard);
         format!(
-            "record {{ waiting = {}; lastTaken = {} }}",
+            "record {{ waiting = {}; last_taken = {} }}",
             list(queue.numbers().map(|number| number.to_string())),
             option(queue.last_taken().map(|number| number.to_string())),
         )
@@ -417,7 +417,7 @@ fn shard_text(shard: &Shard) -> String {
         }))
     });
     format!(
-        "record {{ ssn = {}; lastRun = {}; cells = {} }}",
+        "record {{ ssn = {}; last_run = {}; cells = {} }}",
         shard.ssn(),
         option(shard.last_run().map(|number| number.to_string())),
         list(cells)

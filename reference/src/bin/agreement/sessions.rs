@@ -441,7 +441,7 @@ fn call_text(call: &Call) -> (&'static str, String) {
 
 fn session_text(session: &Session) -> String {
     if *session == Session::default() {
-        return "notStarted".into();
+        return "not_started".into();
     }
     let outstanding = session.outstanding().iter().map(|outstanding| {
         let operations = list(outstanding.operations.iter().map(operation_text));
