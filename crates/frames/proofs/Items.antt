@@ -16,7 +16,7 @@ use Rattle.rules.proofs.Lists.{by, and, and_l, and_r, or_cases}
 use Rattle.rules.proofs.Frames.{value_lt}
 use Rattle.frames.specs.declared.Item.{Item}
 use Rattle.frames.specs.declared.Shape.{Shape}
-use Rattle.frames.specs.declared.Shape.TheVariants.{Operation, Placed, Read}
+use Rattle.frames.specs.declared.Shape.TheVariants.{Operation, Read}
 use Rattle.frames.specs.Frames.{item_bytes, items_bytes, ok_item, ok_from}
 use Rattle.frames.specs.View.{as_operation, as_placed, as_read, Sized, CanonItem, CanonFrom, operation_item, operation_items, placed_item, seen_item, read_item, filled}
 

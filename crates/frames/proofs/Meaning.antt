@@ -1,7 +1,7 @@
 -- The reader means the rules' reading and the writer writes the rules' bytes: the records that are right and lie as they should
 -- are, one for one, the frames that obey the rules. Assumes nothing.
 use mathlib.Core.Path.{◌≡◌, refl, sym, ap, ◌∙◌}
-use mathlib.Core.Bool.{Bool, true, false, not, ◌&&◌}
+use mathlib.Core.Bool.{Bool, true, false, ◌&&◌}
 use mathlib.Core.List.{List, [], ◌∷◌, ◌++◌, map}
 use mathlib.Core.Option.{Option, none, some}
 use Prim.Native.Nat.{ℕ, zero, suc, ◌+◌, ◌≤◌}

@@ -34,8 +34,7 @@ pub struct Stepped {
 // ---- A client session
 
 // Refusal 11. What the session held before is not looked at; the promise names it and says nothing of it.
-#[unsafe(no_mangle)]
-pub extern "C" fn session_start(s: &mut Session, client: u8) -> u8
+pub fn session_start(s: &mut Session, client: u8) -> u8
     ensures value { (result ≡ (started_of client).answer) × (s.new ≡ (started_of client).session) }
     ensures start_means { SessionView.StartMeans client (started s.new result) }
     ensures session_starts { SessionStarts s.old client result s.new }
@@ -47,8 +46,7 @@ pub extern "C" fn session_start(s: &mut Session, client: u8) -> u8
 }
 
 // Refusals 11, 1, 10, 9.
-#[unsafe(no_mangle)]
-pub extern "C" fn session_invoke(s: &mut Session, operations: Operations, out: &mut [u8]) -> Sent
+pub fn session_invoke(s: &mut Session, operations: Operations, out: &mut [u8]) -> Sent
     ensures value { (result ≡ (invoked_of s.old operations out.old).sent)
         × (s.new ≡ (invoked_of s.old operations out.old).session)
         × (out.new ≡ invoke_out s.old operations out.old) }
@@ -62,8 +60,7 @@ pub extern "C" fn session_invoke(s: &mut Session, operations: Operations, out: &
 }
 
 // Refusals 11, 7.
-#[unsafe(no_mangle)]
-pub extern "C" fn session_retry(s: &mut Session, number: u16, out: &mut [u8]) -> Sent
+pub fn session_retry(s: &mut Session, number: u16, out: &mut [u8]) -> Sent
     ensures value { (result ≡ (retried_of s.old number out.old).sent)
         × (s.new ≡ (retried_of s.old number out.old).session)
         × (out.new ≡ retry_out s.old number out.old) }
@@ -77,8 +74,7 @@ pub extern "C" fn session_retry(s: &mut Session, number: u16, out: &mut [u8]) ->
 }
 
 // Refusals 11, 1, 2, 7, 8. "A Response step has no out area."
-#[unsafe(no_mangle)]
-pub extern "C" fn session_response(s: &mut Session, frame: &[u8]) -> Reply
+pub fn session_response(s: &mut Session, frame: &[u8]) -> Reply
     ensures value { (result ≡ (responded_of s.old frame.now).reply)
         × (s.new ≡ (responded_of s.old frame.now).session) }
     ensures response_means { SessionView.Held s.old → SessionView.ResponseMeans s.old frame.now (responded s.new result) }
@@ -93,8 +89,7 @@ pub extern "C" fn session_response(s: &mut Session, frame: &[u8]) -> Reply
 // ---- A board
 
 // Refusal 11. What the board held before is not looked at; the promise names it and says nothing of it.
-#[unsafe(no_mangle)]
-pub extern "C" fn board_start(b: &mut Board, n: u8, m: u8, own: u8) -> u8
+pub fn board_start(b: &mut Board, n: u8, m: u8, own: u8) -> u8
     ensures value { (result ≡ (Boards.start_of n m own).answer) × (b.new ≡ (Boards.start_of n m own).board) }
     ensures start_means { BoardView.StartMeans n m own (board_started b.new result) }
     ensures board_starts { BoardStarts b.old n m own result b.new }
@@ -106,8 +101,7 @@ pub extern "C" fn board_start(b: &mut Board, n: u8, m: u8, own: u8) -> u8
 }
 
 // Refusals 11, 1, 2, then Submit: 3, 4, 8, 5; Forward: 4, 8; ExecNotif and Executed: 6, 7, 8.
-#[unsafe(no_mangle)]
-pub extern "C" fn board_step(b: &mut Board, frame: &[u8], out: &mut [u8]) -> Stepped
+pub fn board_step(b: &mut Board, frame: &[u8], out: &mut [u8]) -> Stepped
     ensures value { (result ≡ board_answer (Boards.step_of b.old frame.now (length out.old)))
         × (b.new ≡ (Boards.step_of b.old frame.now (length out.old)).board)
         × (out.new ≡ Boards.out_of b.old frame.now out.old) }
@@ -127,8 +121,7 @@ pub extern "C" fn board_step(b: &mut Board, frame: &[u8], out: &mut [u8]) -> Ste
 // ---- A shard group
 
 // Refusal 11. What the shard group held before is not looked at; the promise names it and says nothing of it.
-#[unsafe(no_mangle)]
-pub extern "C" fn shard_start(s: &mut Shard, m: u8, own: u8) -> u8
+pub fn shard_start(s: &mut Shard, m: u8, own: u8) -> u8
     ensures value { (result ≡ (Shards.start_of m own).answer) × (s.new ≡ (Shards.start_of m own).shard) }
     ensures start_means { ShardView.StartMeans m own (shard_started s.new result) }
     ensures shard_starts { ShardStarts s.old m own result s.new }
@@ -140,8 +133,7 @@ pub extern "C" fn shard_start(s: &mut Shard, m: u8, own: u8) -> u8
 }
 
 // Refusals 11, 1, 2, 7, 4, 8.
-#[unsafe(no_mangle)]
-pub extern "C" fn shard_step(s: &mut Shard, frame: &[u8], out: &mut [u8]) -> Stepped
+pub fn shard_step(s: &mut Shard, frame: &[u8], out: &mut [u8]) -> Stepped
     ensures value { (result ≡ shard_answer (Shards.step_of s.old frame.now (length out.old)))
         × (s.new ≡ (Shards.step_of s.old frame.now (length out.old)).shard)
         × (out.new ≡ Shards.out_of s.old frame.now out.old) }
