@@ -1,0 +1,8 @@
+-- `finished` meets its contract: the record made is the record defined.
+-- Assumes nothing.
+use Rattle.entry.specs.Model.{finished_of}
+use Rattle.entry.proofs.Entry.finished.Goals as goal
+
+pub returns : goal.returns
+unfolding finished_of
+returns c = simp (c.stored-reads.ensures, c.no_item-z.ensures)
