@@ -2,7 +2,7 @@
 -- Assumes nothing.
 use Rattle.std.specs.Prelude.{List, [], ◌∷◌, map, ℕ, zero, suc, ◌-◌}
 use Rattle.std.proofs.Math.Option.{Option}
-use Rattle.rules.specs.Lists.{if◌then◌else◌, within, snoc, changed}
+use Rattle.rules.specs.Lists.{If◌then◌else◌, within, snoc, changed}
 use Rattle.rules.specs.Transactions.{Cell}
 use Rattle.rules.specs.Outcomes.{Outcome, sent_bytes, least_out}
 use Rattle.rules.specs.Queue.{Queue}
@@ -71,7 +71,7 @@ at_shard w j d o =
 
 unfoldable pub deliver : Bench → Delivery → Bench
 deliver w d =
-    if within 1 8 d.to then at_board w d.to d (B.step (w.boards d.to) d.bytes least_out) else
+    If within 1 8 d.to then at_board w d.to d (B.step (w.boards d.to) d.bytes least_out) else
     at_shard w (d.to - 16) d (S.step (w.shards (d.to - 16)) d.bytes least_out)
 
 unfoldable pub deliver_all : Bench → List Delivery → Bench

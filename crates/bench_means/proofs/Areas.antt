@@ -8,7 +8,7 @@ use native.Mathlib.Omega.{arith}
 use lib.ListN.{length, take, drop, length-drop}
 use lib.Seq.{take-append_seam, length-take-le, take_at}
 use borrow.Author.Tests.{le-leb}
-use Rattle.rules.specs.Lists.{if◌then◌else◌}
+use Rattle.rules.specs.Lists.{If◌then◌else◌}
 use Rattle.lines.specs.Area.{laid, taken}
 use Rattle.records.specs.Front.{part_length, front_of}
 use Rattle.frames.specs.View.{Bytes}
@@ -30,7 +30,7 @@ put_line line area wide = rw (le-leb 128 (length area) wide) (take-append_seam l
 -- the bytes that are kept, moved to the front of the input area
 pub kept_bytes : (from end : ℕ) (area : List ℕ) → from ≤ end → end ≤ length area
     → take (part_length from end (length area)) (front_of from end area) ≡ take (end - from) (drop from area)
-unfolding part_length front_of if◌then◌else◌
+unfolding part_length front_of If◌then◌else◌
 kept_bytes from end area low high =
     rw (le-leb from end low, le-leb end (length area) high)
     (take_at (take (end - from) (drop from area)) (drop (end - from) area) (end - from)

@@ -9,7 +9,7 @@ use lib.Dec.{T, leb, ltb, leb→le, ltb→lt}
 use lib.ListN.{length, take, drop, length-append, length-drop}
 use lib.Seq.{take-append-le, drop-append-le, drop-drop, get_or-drop}
 use borrow.Author.Tests.{lt-leb, le-ltb}
-use Rattle.rules.specs.Lists.{if◌then◌else◌}
+use Rattle.rules.specs.Lists.{If◌then◌else◌}
 use Rattle.rules.proofs.Lists.{by, or_cases}
 use Rattle.frames.specs.View.{Bytes}
 use Rattle.frames.proofs.Meaning.{bytes_take}
@@ -232,7 +232,7 @@ runs_take input room (suc most) run =
 
 pub goes_on : (r : Register) (first : ℕ) (input : List ℕ) (room address end : ℕ) → next_of input ≡ Record address end → 128 ≤ room → first < last_index
     → 3 ≤ (delivered r first input room).taken
-unfolding runs onward if◌then◌else◌
+unfolding runs onward If◌then◌else◌
 goes_on r first [] room address end next wide few = let i = record-inside [] address end next in absurd (omega arith)
 goes_on r first (x ∷ s) room address end next wide few =
     let i = record-inside (x ∷ s) address end next in

@@ -6,7 +6,7 @@ use Prim.Native.Nat.{ℕ, zero, suc, ◌+◌, ◌-◌, ◌≤◌, ◌<◌}
 use native.Mathlib.Omega.{arith}
 use lib.Dec.{ltb, ltb→lt, nltb→le}
 use lib.ListN.{length, take, drop, length-append, length-drop, get_or-append, take-append-drop}
-use Rattle.rules.specs.Lists.{if◌then◌else◌}
+use Rattle.rules.specs.Lists.{If◌then◌else◌}
 use Rattle.rules.specs.Frames.{byte_at, two_at, back_to_back}
 use Rattle.rules.proofs.Lists.{by}
 use Rattle.records.specs.declared.Next.{Next}
@@ -79,7 +79,7 @@ abbrev pub first_of : (s : List ℕ) (address end : ℕ) → Addressed
 first_of s address end = record { address = address; frame = take (end - 1) (drop 1 s) }
 
 of_none : (most : ℕ) → parts_up_to most [] ≡ record { records = []; left = [] }
-unfolding parts_up_to parts_by next_of if◌then◌else◌
+unfolding parts_up_to parts_by next_of If◌then◌else◌
 of_none zero = refl
 of_none (suc most) = refl
 
@@ -134,7 +134,7 @@ left_by s Need more e ih = rw e tt
 left_by s Cut more e ih = rw e tt
 
 left_of_lem : (most : ℕ) (s : List ℕ) → length s ≤ most → NoRecord (next_of (parts_up_to most s).left)
-unfolding parts_up_to next_of if◌then◌else◌
+unfolding parts_up_to next_of If◌then◌else◌
 left_of_lem zero [] l = tt
 left_of_lem zero (x ∷ s) l = absurd (omega arith)
 left_of_lem (suc most) s l =

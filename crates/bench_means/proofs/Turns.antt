@@ -9,7 +9,7 @@ use lib.Dec.{T, eqb}
 use lib.ListN.{get_or, set, replicate, length-set}
 use lib.Seq.{get_or-set_same, get_or-set_other, set-get_or}
 use borrow.Author.Tests.{eqb-true, eqb-false}
-use Rattle.rules.specs.Lists.{if◌then◌else◌, changed, ◌=?◌}
+use Rattle.rules.specs.Lists.{If◌then◌else◌, changed, ◌=?◌}
 use Rattle.rules.specs.Answers.{done}
 use Rattle.rules.specs.Outcomes.{Outcome, taken, refuse, least_out, frame_count}
 use Rattle.rules.specs.Board as B
@@ -40,10 +40,10 @@ use Rattle.bench_means.specs.View.{BoardMeans, ShardMeans, Eight, Means, TurnMea
 
 module _ {A B : Type 0} {Each : A → B → Type 0} {blank : A} {row : List A} {numbered : ℕ → B} (h : Eight Each blank row numbered) (place : ℕ) (inside : place < 8) where
   pub changes : (x : A) (y : B) → Each x y → Eight Each blank (set row place x) (changed numbered (place + 1) y)
-  unfolding changed if◌then◌else◌
+  unfolding changed If◌then◌else◌
   changes x y e = record { eight = length-set row place x ∙ h.eight; each = λ i l. at i l (eqb (i + 1) (place + 1)) refl }
     where
-      at : (i : ℕ) → i < 8 → (t : Bool) → eqb (i + 1) (place + 1) ≡ t → Each (get_or (set row place x) i blank) (if t then y else numbered (i + 1))
+      at : (i : ℕ) → i < 8 → (t : Bool) → eqb (i + 1) (place + 1) ≡ t → Each (get_or (set row place x) i blank) (If t then y else numbered (i + 1))
       at i l true t =
           let same : i ≡ place = omega (arith, eqb-true (i + 1) (place + 1) t) in
           rw (same, get_or-set_same row place x blank (omega (arith, h.eight))) e

@@ -9,7 +9,7 @@ use native.Mathlib.Omega.{arith}
 use lib.Dec.{T}
 use lib.ListN.{length, take, drop, get_or, length-append, length-drop}
 use lib.Seq.{drop-append-le}
-use Rattle.rules.specs.Lists.{if◌then◌else◌}
+use Rattle.rules.specs.Lists.{If◌then◌else◌}
 use Rattle.rules.specs.Board as B
 use Rattle.rules.specs.Board.{is_exe}
 use Rattle.frames.specs.View.{Bytes}
@@ -40,7 +40,7 @@ unfolding lines
 no_record_more p index s none = ap (λ (y : Parts). d_lines p index y.records ++ (cut_before y.left ++ l_lines (after p y.records))) (parts_none s none)
 
 cut_some : (s : List ℕ) → next_of s ≡ Cut → cut_before s ≡ cut_line
-unfolding next_of if◌then◌else◌
+unfolding next_of If◌then◌else◌
 cut_some [] e = let z : ◌≡◌ {A = ℕ} 0 1 = cc in absurd (omega arith)
 cut_some (x ∷ s) e = refl
 
@@ -57,12 +57,12 @@ entries_lines board ind m [] = refl
 entries_lines board ind m (e ∷ es) =
     λ i. l_line board ind e.client e.number (exe e.exe i) ++ entries_lines board (ind + 1) m es i
   where
-    exe : (t : Bool) → t ≡ is_exe (if t then B.EXE else B.PRE)
-    exe true = unfold if◌then◌else◌ in refl
-    exe false = unfold if◌then◌else◌ in refl
+    exe : (t : Bool) → t ≡ is_exe (If t then B.EXE else B.PRE)
+    exe true = unfold If◌then◌else◌ in refl
+    exe false = unfold If◌then◌else◌ in refl
 
 board_lines_lem : (board : ℕ) (b : Board) → log_lines board b room ≡ entry_lines board 0 (view_board b).log
-unfolding log_lines view_board if◌then◌else◌
+unfolding log_lines view_board If◌then◌else◌
 board_lines_lem board b = entries_lines board 0 b.m (take b.len b.log)
 
 logs_mean : (r : Register) (p : Park) → Means r p → (place more : ℕ) → place + more ≤ 8 → put_logs r place more ≡ board_lines p (place + 1) more
@@ -140,8 +140,8 @@ turns_write (suc most) b p xs h bytes turns few =
     (omega (arith, d.inside)) (omega (arith, d.index, d.fewer, d.inside))))
     ∙ sym (pieces b.register p b.index b.bytes run d (bytes_of xs))
 
-if_same : {A : Type 0} (t : Bool) (x y z : A) → (T t → x ≡ y) → (if t then x else z) ≡ (if t then y else z)
-unfolding if◌then◌else◌
+if_same : {A : Type 0} (t : Bool) (x y z : A) → (T t → x ≡ y) → (If t then x else z) ≡ (If t then y else z)
+unfolding If◌then◌else◌
 if_same true x y z e = e tt
 if_same false x y z e = refl
 

@@ -3,7 +3,7 @@
 -- No contract can say what is read or written, so that main.rt puts them together in this way is to be read there, line beside line.
 -- Assumes nothing.
 use Rattle.std.specs.Prelude.{List, [], ◌∷◌, ◌++◌, ℕ, zero, suc, ◌+◌, get_or, drop}
-use Rattle.rules.specs.Lists.{if◌then◌else◌}
+use Rattle.rules.specs.Lists.{If◌then◌else◌}
 use Rattle.lines.specs.Text.{header_line, cut_line, setup_line}
 use Rattle.records.specs.declared.Next.{Next}
 use Rattle.records.specs.declared.Next.TheVariants.{Record, Need, Cut}
@@ -62,5 +62,5 @@ unfoldable pub written : (head : List ℕ) (pieces : List Piece) → List ℕ
 written [] pieces = setup_line
 written (n ∷ []) pieces = setup_line
 written (n ∷ m ∷ rest) pieces =
-    if usable_of n m then header_line n m ++ turns_of 18446744073709551615 (record { register = register_of n m; index = 0; bytes = [] }) pieces else
+    If usable_of n m then header_line n m ++ turns_of 18446744073709551615 (record { register = register_of n m; index = 0; bytes = [] }) pieces else
     setup_line

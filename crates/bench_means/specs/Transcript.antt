@@ -2,7 +2,7 @@
 -- Where a record ends and whom an address names is crate records' (`next_of`, `receiver_of`), how a line reads is crate lines' (specs/Text).
 -- Assumes nothing.
 use Rattle.std.specs.Prelude.{List, [], ◌∷◌, ◌++◌, ℕ, zero, suc, ◌+◌, ◌-◌, length, take, drop}
-use Rattle.rules.specs.Lists.{if◌then◌else◌, changed}
+use Rattle.rules.specs.Lists.{If◌then◌else◌, changed}
 use Rattle.rules.specs.Answers.{not_for_me}
 use Rattle.rules.specs.Outcomes.{Outcome, frame_count, least_out}
 use Rattle.rules.specs.Board as B
@@ -120,4 +120,4 @@ lines p index s = d_lines p index (parts s).records ++ (cut_before (parts s).lef
 unfoldable pub transcript : List ℕ → List ℕ
 transcript [] = setup_line
 transcript (n ∷ []) = setup_line
-transcript (n ∷ m ∷ s) = if usable_of n m then header_line n m ++ lines (fresh n m) 0 s else setup_line
+transcript (n ∷ m ∷ s) = If usable_of n m then header_line n m ++ lines (fresh n m) 0 s else setup_line

@@ -7,17 +7,17 @@ use native.Mathlib.Omega.{arith}
 use native.Mathlib.Numerals.{add-one}
 use lib.ListN.{length, get_or, take, drop, length-take, drop_of_length-le}
 use borrow.Author.Tests.{eq-eqb, ne_eqb}
-use Rattle.rules.specs.Lists.{if◌then◌else◌}
+use Rattle.rules.specs.Lists.{If◌then◌else◌}
 use Rattle.frames.proofs.Lists.{front_cons, front_end}
 use Rattle.board.specs.Model.{position_of}
 
 module _ (x n : ℕ) (l : List ℕ) (i : ℕ) where
   pub position_here : i < n → i < length l → get_or l i 0 ≡ x → position_of x (drop i (take n l)) ≡ 0
-  unfolding position_of if◌then◌else◌
+  unfolding position_of If◌then◌else◌
   position_here h k e = rw (front_cons n l i 0 h k, eq-eqb _ _ e)
 
   pub position_past : i < n → i < length l → (get_or l i 0 ≡ x → ⊥) → position_of x (drop i (take n l)) ≡ suc (position_of x (drop (suc i) (take n l)))
-  unfolding position_of if◌then◌else◌
+  unfolding position_of If◌then◌else◌
   position_past h k e = rw (front_cons n l i 0 h k, add-one, ne_eqb _ _ e)
 
   pub position_end : n ≤ i → position_of x (drop i (take n l)) ≡ 0

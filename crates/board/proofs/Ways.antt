@@ -6,7 +6,7 @@ use mathlib.Core.List.{List}
 use Prim.Native.Nat.{ℕ}
 use lib.ListN.{length, get_or, set}
 use borrow.Author.Tests.{eq-eqb, ne_eqb}
-use Rattle.rules.specs.Lists.{if◌then◌else◌, ◌<?◌}
+use Rattle.rules.specs.Lists.{If◌then◌else◌, ◌<?◌}
 use Rattle.rules.specs.Outcomes.{unusable}
 use Rattle.frames.specs.declared.Frame.{Frame}
 use Rattle.frames.specs.Frames.{read_frame}
@@ -30,7 +30,7 @@ module _ (b : Board) (s out : List ℕ) where
   promised o e = (sym (ap stepped_of e), sym (ap (λ (x : Outcome). laid x.frames out) e))
 
   pub not_usable_lem : unusable b.started (length out) ≡ true → Promised b s out (record { board = b; answer = 11; frames = 0; bytes = 0 }) out
-  unfolding outcome if◌then◌else◌ laid bytes_of
+  unfolding outcome If◌then◌else◌ laid bytes_of
   not_usable_lem h = promised (refused b 11) (rw h)
 
   module _ (h : unusable b.started (length out) ≡ false)
@@ -45,7 +45,7 @@ module _ (b : Board) (s out : List ℕ) where
         ∙ ap (λ (k : ℕ). judge_of f.head f.count f.items b.n b.m b.own b.floor b.next b.len (ind <? b.len) (get_or b.log k blank)) lies
 
     usable : outcome b s (length out) ≡ frame_step b (read_frame s) (place_of (read_frame s).head b.next b.names b.len) (length out)
-    unfolding outcome if◌then◌else◌
+    unfolding outcome If◌then◌else◌
     usable = rw h
 
     comes_to : outcome b s (length out) ≡ judged_step b ind v (length out)
@@ -57,11 +57,11 @@ module _ (b : Board) (s out : List ℕ) where
         ∙ ap (λ (x : Verdict). judged_step b ind x (length out)) (sym verdict)
 
     pub refused_by : (v.answer ≡ 0 → ⊥) → Promised b s out (record { board = b; answer = v.answer; frames = 0; bytes = 0 }) out
-    unfolding judged_step if◌then◌else◌ laid bytes_of
+    unfolding judged_step If◌then◌else◌ laid bytes_of
     refused_by n = promised (refused b v.answer) (comes_to ∙ rw (ne_eqb _ _ n))
 
     is_taken : v.answer ≡ 0 → outcome b s (length out) ≡ taken_step b ind v (length out)
-    unfolding judged_step if◌then◌else◌
+    unfolding judged_step If◌then◌else◌
     is_taken n = comes_to ∙ rw (eq-eqb _ _ n)
 
     module _ (zero : v.answer ≡ 0)

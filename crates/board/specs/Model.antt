@@ -2,7 +2,7 @@
 -- every byte of the out area, for every input. What it means in the rules' words is in View.
 -- Assumes nothing.
 use Rattle.std.specs.Prelude.{Bool, true, false, not, ◌&&◌, List, [], ◌∷◌, ℕ, suc, ◌+◌, ◌*◌, ◌%◌, max, length, get_or, set, take, replicate}
-use Rattle.rules.specs.Lists.{if◌then◌else◌, ◌<?◌, ◌=?◌, within}
+use Rattle.rules.specs.Lists.{If◌then◌else◌, ◌<?◌, ◌=?◌, within}
 use Rattle.rules.specs.Answers.{done, not_usable}
 use Rattle.rules.specs.Outcomes.{unusable}
 use Rattle.frames.specs.declared.Frame.{Frame}
@@ -43,7 +43,7 @@ in_range n m own = within 2 8 n && within 1 8 m && within 1 n own
 
 unfoldable pub start_of : ℕ → ℕ → ℕ → Started
 start_of n m own =
-    if in_range n m own then record { board = empty_board n m own true; answer = done } else
+    If in_range n m own then record { board = empty_board n m own true; answer = done } else
     record { board = empty_board 0 0 0 false; answer = not_usable }
 
 -- ---- The log, by log number and by client
@@ -65,13 +65,13 @@ name_of client number = client * 65536 + number
 -- the place of the first that equals x; the list's length where none does
 unfoldable pub position_of : ℕ → List ℕ → ℕ
 position_of x [] = 0
-position_of x (y ∷ ys) = if y =? x then 0 else suc (position_of x ys)
+position_of x (y ∷ ys) = If y =? x then 0 else suc (position_of x ys)
 
 -- the log number that a frame is about
 unfoldable pub place_of : Head → List ℕ → List ℕ → ℕ → ℕ
 place_of Bad next names len = len
 place_of (Submit client number ack) next names len =
-    if number <? next_of next client then position_of (name_of client number) (take len names) else len
+    If number <? next_of next client then position_of (name_of client number) (take len names) else len
 place_of (Forward ind client number ack) next names len = ind
 place_of (ShardAppend shard ind sn) next names len = len
 place_of (ExecNotif shard ind) next names len = ind
@@ -84,15 +84,15 @@ unfoldable pub raised_of : List ℕ → ℕ → ℕ → List ℕ
 raised_of floor client ack = set floor client (max (floor_of floor client) ack)
 
 unfoldable pub followed_of : List ℕ → Bool → ℕ → ℕ → List ℕ
-followed_of next fresh client number = if fresh then set next client (number + 1) else next
+followed_of next fresh client number = If fresh then set next client (number + 1) else next
 
 unfoldable pub queues_after : List Queue → Bool → ℕ → ℕ → List Queue
 queues_after queues fresh shards ind =
-    if is_empty_of shards then queues else changed_all queues fresh shards ind
+    If is_empty_of shards then queues else changed_all queues fresh shards ind
 
 unfoldable pub frames_of : Bool → Entry → ℕ → ℕ → ℕ → List ℕ → ℕ → List ℕ → ℕ → List Frame
 frames_of sends e n m own floor ind touched room =
-    if sends then send_parts e n m own (floor_of floor e.client) ind touched room else []
+    If sends then send_parts e n m own (floor_of floor e.client) ind touched room else []
 
 -- the board after a step that is taken
 unfoldable pub board_after : Board → ℕ → Verdict → Board
@@ -132,7 +132,7 @@ taken_step b ind v room =
     }
 
 unfoldable pub judged_step : Board → ℕ → Verdict → ℕ → Outcome
-judged_step b ind v room = if v.answer =? 0 then taken_step b ind v room else refused b v.answer
+judged_step b ind v room = If v.answer =? 0 then taken_step b ind v room else refused b v.answer
 
 -- the verdict on a frame that is about a log number
 unfoldable pub verdict_of : Board → Frame → ℕ → Verdict
@@ -145,7 +145,7 @@ frame_step b f ind room = judged_step b ind (verdict_of b f ind) room
 -- "Order: 11, 1, 2, then" the kind's
 unfoldable pub outcome : Board → List ℕ → ℕ → Outcome
 outcome b s room =
-    if unusable b.started room then refused b not_usable else
+    If unusable b.started room then refused b not_usable else
     frame_step b (read_frame s) (place_of (read_frame s).head b.next b.names b.len) room
 
 abbrev pub stepped_of : Outcome → Stepped

@@ -14,7 +14,7 @@ use lib.Dec.{eqb, eqb→eq}
 use lib.ListN.{length, get_or, set, take, drop, replicate, length-take, length-set, length-map}
 use lib.Seq.{get_or-set_same, get_or-set_other}
 use mir.Facts.{eqb_no}
-use Rattle.rules.specs.Lists.{if◌then◌else◌, at, snoc, changed}
+use Rattle.rules.specs.Lists.{If◌then◌else◌, at, snoc, changed}
 use Rattle.rules.specs.Transactions.{touched}
 use Rattle.rules.specs.Queue as Q
 use Rattle.rules.specs.Queue.{enqueue, take_up_to}
@@ -48,7 +48,7 @@ slot_is ind h = mod-eq_of_lt h
 -- ---- Floors, numbers and queues
 
 -- an element of an array that was stored
-stored_at : (l : List ℕ) (i x j : ℕ) → i < length l → get_or (set l i x) j 0 ≡ (if eqb j i then x else get_or l j 0)
+stored_at : (l : List ℕ) (i x j : ℕ) → i < length l → get_or (set l i x) j 0 ≡ (If eqb j i then x else get_or l j 0)
 stored_at l i x j h =
     by (λ (k : ℕ). get_or (set l i x) j 0 ≡ k) (eqb j i) (λ t. let e : j ≡ i = eqb→eq j i t in rw e (get_or-set_same l i x 0 h))
     (λ t. get_or-set_other l i j x 0 (eqb_no {a = j} {b = i} t))
@@ -70,7 +70,7 @@ queueing true ind = enqueue ind
 queueing false ind = take_up_to ind
 
 pub no_queues : (f : Q.Queue → Q.Queue) (queue : ℕ → Q.Queue) → on_queues (set_of 0) f queue ≡ queue
-unfolding on_queues set_of in_mask if◌then◌else◌
+unfolding on_queues set_of in_mask If◌then◌else◌
 no_queues f queue = refl
 
 pub queues_view : (queues : List Queue) (fresh : Bool) (shards ind most : ℕ) → QueuesHeld most queues → most < 256
@@ -175,8 +175,8 @@ module _ (b : Board) (c : Columns b) where
           mask_slots = rw length-set c.mask_slots;
           masks = column (mask_in b.m) b.touched (mask_in b.m e') c.masks refl;
           mask_rest = rest b.touched (mask_in b.m e') ∙ c.mask_rest;
-          clients = unfold if◌then◌else◌ in c.clients;
-          next = λ d. unfold if◌then◌else◌ in (c.next d ∙ ap (next_number d) (sym writes_stay ∙ ap (λ l. writes (view_log b.m l)) (sym after)));
+          clients = unfold If◌then◌else◌ in c.clients;
+          next = λ d. unfold If◌then◌else◌ in (c.next d ∙ ap (next_number d) (sym writes_stay ∙ ap (λ l. writes (view_log b.m l)) (sym after)));
           floors = rw length-set c.floors;
           queues = taken_lie b.queues shards ind b.len c.queues c.few;
           tidy = after_tidy b.queues false shards ind c.tidy;
@@ -237,7 +237,7 @@ module _ (b : Board) (c : Columns b) where
           mask_slots = rw length-set c.mask_slots;
           masks = column (mask_in b.m) b.touched (mask_in b.m the_new) c.mask_slots c.masks refl;
           mask_rest = shorter b.touched (mask_in b.m the_new) 0 c.mask_rest;
-          clients = unfold followed_of if◌then◌else◌ in (rw length-set c.clients);
+          clients = unfold followed_of If◌then◌else◌ in (rw length-set c.clients);
           next = λ d. rw (longer b.log the_new c.slots, log_longer, writes_snoc (view_log b.m (entries_of b)) (new_entry b.m (the_write client number count items))) (following d);
           floors = unfold raised_of in (rw length-set c.floors);
           queues = pushed_lie b.queues the_new.remaining b.len b.len c.queues;
@@ -258,15 +258,15 @@ module _ (b : Board) (c : Columns b) where
 
         following : (d : ℕ) → next_of (followed_of b.next true the_new.client the_new.number) d ≡ next_number d (snoc (writes (view_log b.m (entries_of b))) (new_entry b.m (the_write client number count items)).write)
         following d =
-            unfold followed_of new_entry_of new_entry if◌then◌else◌ in
+            unfold followed_of new_entry_of new_entry If◌then◌else◌ in
             (stored_at b.next client (number + 1) d (let k = c.clients in omega arith) ∙ (go (eqb d client) (eqb client d) refl refl ∙ sym (next_snoc d (writes (view_log b.m (entries_of b))) (the_write client number count items))))
           where
-            go : (s t : Bool) → s ≡ eqb d client → t ≡ eqb client d → (if s then number + 1 else next_of b.next d)
-                ≡ (if t then max (next_number d (writes (view_log b.m (entries_of b)))) (suc number) else next_number d (writes (view_log b.m (entries_of b))))
-            go true true p q = let e : d ≡ client = eqb→eq d client (rw (← p) tt) in rw e (unfold if◌then◌else◌ in (omega arith))
+            go : (s t : Bool) → s ≡ eqb d client → t ≡ eqb client d → (If s then number + 1 else next_of b.next d)
+                ≡ (If t then max (next_number d (writes (view_log b.m (entries_of b)))) (suc number) else next_number d (writes (view_log b.m (entries_of b))))
+            go true true p q = let e : d ≡ client = eqb→eq d client (rw (← p) tt) in rw e (unfold If◌then◌else◌ in (omega arith))
             go true false p q = let e : d ≡ client = eqb→eq d client (rw (← p) tt) in let f = eqb_no {a = client} {b = d} (rw (← q) tt) in absurd (f (sym e))
             go false true p q = let e : client ≡ d = eqb→eq client d (rw (← q) tt) in let f = eqb_no {a = d} {b = client} (rw (← p) tt) in absurd (f (sym e))
-            go false false p q = unfold if◌then◌else◌ in (c.next d)
+            go false false p q = unfold If◌then◌else◌ in (c.next d)
 
     pub longer_view : view_board (board_after b b.len new_verdict) ≡ append (the_write client number count items) (raise_floor client ack (view_board b))
     unfolding view_board append raise_floor holding board_after new_entry_of

@@ -10,7 +10,7 @@ use native.Mathlib.Omega.{arith}
 use lib.Dec.{T, leb, ltb, eqb, ltb→lt, lt→ltb, nltb→le, nleb→lt, eqb→eq}
 use lib.ListN.{length, set, take, length-map}
 use mir.Facts.{no_leb, no_ltb}
-use Rattle.rules.specs.Lists.{if◌then◌else◌, at, snoc, changed, has, insert}
+use Rattle.rules.specs.Lists.{If◌then◌else◌, at, snoc, changed, has, insert}
 use Rattle.rules.specs.Transactions.{Write, touched, touches, placed, on_shard, same_write}
 use Rattle.rules.specs.Frames as F
 use Rattle.rules.specs.Outcomes as O
@@ -77,7 +77,7 @@ send_law n m own floor ind room masks es e r lo hi wide n_is m_is own_is log_is 
       held = held;
       remains = unfold view_entry write_of in remains;
     } in
-    let all : (if ltb room 68 then [] else onward_of e n m own floor ind masks) ≡ onward_of e n m own floor ind masks = if_no (ltb room 68) [] (onward_of e n m own floor ind masks) (no_ltb {a = room} {b = 68} wide) in
+    let all : (If ltb room 68 then [] else onward_of e n m own floor ind masks) ≡ onward_of e n m own floor ind masks = if_no (ltb room 68) [] (onward_of e n m own floor ind masks) (no_ltb {a = room} {b = 68} wide) in
     record {
       count = ap length all ∙ onward_count r es e n m own floor ind masks p;
       bytes = ap bytes_of all ∙ onward_bytes r es e n m own floor ind masks p;
@@ -132,9 +132,9 @@ module _ (b : Board) (held : Held b) (ready : T b.started) (lo : 1 ≤ b.m) (hi 
 
   -- the same test on both sides
   pub either : (ind : ℕ) (s t : Bool) {v w : Verdict} {p q : O.Outcome B.Board} → s ≡ t → (T s → Judged ind v p) → (T (not s) → Judged ind w q)
-      → Judged ind (if s then v else w) (if t then p else q)
-  either ind true t e f g = rw (← e) (unfold if◌then◌else◌ in (f tt))
-  either ind false t e f g = rw (← e) (unfold if◌then◌else◌ in (g tt))
+      → Judged ind (If s then v else w) (If t then p else q)
+  either ind true t e f g = rw (← e) (unfold If◌then◌else◌ in (f tt))
+  either ind false t e f g = rw (← e) (unfold If◌then◌else◌ in (g tt))
 
   taking : (ind : ℕ) (v : Verdict) (q : O.Outcome B.Board) → v.answer ≡ 0 → Lifts (taken_step b ind v room) q → Judged ind v q
   unfolding judged_step
@@ -194,7 +194,7 @@ module _ (b : Board) (held : Held b) (ready : T b.started) (lo : 1 ≤ b.m) (hi 
     after = sym (replaced_view b c ind old e' (old_entry b c ind l) write kept 0 ack shards sends client_small)
 
     frames_after : Sends (frames_of true e' b.n b.m b.own moved.floor ind moved.touched room) (onward (view_board moved) ind (view_entry b.m e'))
-    unfolding frames_of board_after if◌then◌else◌
+    unfolding frames_of board_after If◌then◌else◌
     frames_after = sent_after moved columns refl ind e' there kept touched-left
 
   -- ---- A held entry is served again
@@ -273,7 +273,7 @@ module _ (b : Board) (held : Held b) (ready : T b.started) (lo : 1 ≤ b.m) (hi 
     theirs j t = rw (touched_set b.m count items lo hi) at t
 
     fresh_frames : Sends (frames_of true fresh b.n b.m b.own longer.floor b.len longer.touched room) (onward (view_board longer) b.len (view_entry b.m fresh))
-    unfolding frames_of board_after if◌then◌else◌
+    unfolding frames_of board_after If◌then◌else◌
     fresh_frames = sent_after longer longer_lies refl b.len fresh at_its_end fresh_held theirs
 
     onward_same : onward (view_board longer) b.len (view_entry b.m fresh)
@@ -315,7 +315,7 @@ module _ (b : Board) (held : Held b) (ready : T b.started) (lo : 1 ≤ b.m) (hi 
   serve_next : (client number ack count : ℕ) (items : List Item) → client < 16 → number ≡ next_number client (writes (view_log b.m (entries_of b))) → length items ≡ 4
       → T (ok_items count items) → Canon AnOperation count items → WriteRules (the_write client number count items) ack
       → Judged b.len (new_of b.m client number ack count items b.len)
-      (if leb log_size (length (view_board b).log) then refuse 5 (view_board b) else serve_new (view_board b) (the_write client number count items) ack)
+      (If leb log_size (length (view_board b).log) then refuse 5 (view_board b) else serve_new (view_board b) (the_write client number count items) ack)
   unfolding new_of
   serve_next client number ack count items small next n ok canon rules =
       either b.len (leb log_size b.len) (leb log_size (length (view_board b).log)) (ap (leb 256) long) (λ t. refusing b.len 5 tt)
@@ -429,7 +429,7 @@ module _ (b : Board) (held : Held b) (ready : T b.started) (lo : 1 ≤ b.m) (hi 
   -- refusal 6, or the rest
   in_log : (ind : ℕ) (v : Verdict) (q : Option B.Entry → O.Outcome B.Board) → q none ≡ refuse 6 (view_board b)
       → ((l : ind < b.len) → Judged ind v (q (some (view_entry b.m (entry_at b.log ind)))))
-      → Judged ind (if not (ltb ind b.len) then refuse_of 6 else v) (q (at (view_board b).log ind))
+      → Judged ind (If not (ltb ind b.len) then refuse_of 6 else v) (q (at (view_board b).log ind))
   in_log ind v q e f =
       by (λ (w : Verdict). Judged ind w (q (at (view_board b).log ind))) (not (ltb ind b.len))
       (λ t. let o = is_none (nltb→le ind b.len t) in rw (o, e) (refusing ind 6 tt))
@@ -445,7 +445,7 @@ module _ (b : Board) (held : Held b) (ready : T b.started) (lo : 1 ≤ b.m) (hi 
   backward_only : (q : B.Board) (ind : ℕ) (e : B.Entry) → is_exe e.status ≡ true → q.own ≡ (view_board b).own → onward q ind e ≡ backward (view_board b) ind e ∷ []
   unfolding onward backward
   backward_only q ind e x o =
-      rw (x, o) (unfold if◌then◌else◌ in refl)
+      rw (x, o) (unfold If◌then◌else◌ in refl)
 
   -- ---- ExecNotif
 
@@ -475,7 +475,7 @@ module _ (b : Board) (held : Held b) (ready : T b.started) (lo : 1 ≤ b.m) (hi 
       one_shard = insert_set 0 j low high ∙ ap (insert j) empty
         where
           empty : set_of 0 ≡ []
-          empty = unfold set_of in_mask if◌then◌else◌ in refl
+          empty = unfold set_of in_mask If◌then◌else◌ in refl
 
       abbrev heard_after : Board
       heard_after = moved ind l now_heard heard_write heard_kept heard_left 0 (insert_of 0 j) now_heard.exe
@@ -490,8 +490,8 @@ module _ (b : Board) (held : Held b) (ready : T b.started) (lo : 1 ≤ b.m) (hi 
       heard_frames : (x : Bool) → now_heard.exe ≡ x
           → Sends (frames_of x now_heard b.n b.m b.own heard_after.floor ind
           heard_after.touched room)
-          (if x then backward (view_board b) ind (heard_from j (reads_of k rs) (view_entry b.m was)) ∷ [] else [])
-      unfolding frames_of if◌then◌else◌
+          (If x then backward (view_board b) ind (heard_from j (reads_of k rs) (view_entry b.m was)) ∷ [] else [])
+      unfolding frames_of If◌then◌else◌
       heard_frames true e =
           let same = backward_only (view_board heard_after) ind (view_entry b.m now_heard)
           (exe_view b.m now_heard ∙ e) own_stays in
@@ -503,7 +503,7 @@ module _ (b : Board) (held : Held b) (ready : T b.started) (lo : 1 ≤ b.m) (hi 
 
       heard_lifts : Judged ind (record { answer = 0; entry = now_heard; fresh = false; len = b.len; shards = insert_of 0 j; ack = 0; sends = now_heard.exe })
           (taken (settle ind (heard_from j (reads_of k rs) (view_entry b.m was)) (j ∷ []) (view_board b))
-          (if is_exe (heard_from j (reads_of k rs) (view_entry b.m was)).status then backward (view_board b) ind (heard_from j (reads_of k rs) (view_entry b.m was)) ∷ [] else []))
+          (If is_exe (heard_from j (reads_of k rs) (view_entry b.m was)).status then backward (view_board b) ind (heard_from j (reads_of k rs) (view_entry b.m was)) ∷ [] else []))
       unfolding taken_step taken
       heard_lifts =
           taking ind (record { answer = 0; entry = now_heard; fresh = false; len = b.len; shards = insert_of 0 j; ack = 0; sends = now_heard.exe }) _ refl
@@ -522,8 +522,8 @@ module _ (b : Board) (held : Held b) (ready : T b.started) (lo : 1 ≤ b.m) (hi 
       → fits_of (part_on b.m j (entry_at b.log ind).count (entry_at b.log ind).items).count (part_on b.m j (entry_at b.log ind).count (entry_at b.log ind).items).items k rs
       ≡ B.fits (reads_of k rs) (on_shard b.m j (operations_of (entry_at b.log ind).count (entry_at b.log ind).items))
       → Judged ind
-      (if not (in_mask (entry_at b.log ind).remaining j) then refuse_of 7 else
-      if not (fits_of (part_on b.m j (entry_at b.log ind).count (entry_at b.log ind).items).count (part_on b.m j (entry_at b.log ind).count (entry_at b.log ind).items).items k rs) then refuse_of 8 else
+      (If not (in_mask (entry_at b.log ind).remaining j) then refuse_of 7 else
+      If not (fits_of (part_on b.m j (entry_at b.log ind).count (entry_at b.log ind).items).count (part_on b.m j (entry_at b.log ind).count (entry_at b.log ind).items).items k rs) then refuse_of 8 else
       record { answer = 0; entry = heard_from_of (entry_at b.log ind) j k rs; fresh = false; len = b.len; shards = insert_of 0 j; ack = 0; sends = (heard_from_of (entry_at b.log ind) j k rs).exe })
       (exec_notif_step (view_board b) j ind (reads_of k rs) (some (view_entry b.m (entry_at b.log ind))))
   unfolding exec_notif_step
@@ -563,8 +563,8 @@ module _ (b : Board) (held : Held b) (ready : T b.started) (lo : 1 ≤ b.m) (hi 
 
       go : (l : ind < b.len)
           → Judged ind
-          (if not (in_mask (entry_at b.log ind).remaining j) then refuse_of 7 else
-          if not (fits_of (part_on b.m j (entry_at b.log ind).count (entry_at b.log ind).items).count (part_on b.m j (entry_at b.log ind).count (entry_at b.log ind).items).items k rs) then refuse_of 8 else
+          (If not (in_mask (entry_at b.log ind).remaining j) then refuse_of 7 else
+          If not (fits_of (part_on b.m j (entry_at b.log ind).count (entry_at b.log ind).items).count (part_on b.m j (entry_at b.log ind).count (entry_at b.log ind).items).items k rs) then refuse_of 8 else
           record { answer = 0; entry = heard_from_of (entry_at b.log ind) j k rs; fresh = false; len = b.len; shards = insert_of 0 j; ack = 0; sends = (heard_from_of (entry_at b.log ind) j k rs).exe })
           (exec_notif_step (view_board b) j ind (reads_of k rs) (some (view_entry b.m (entry_at b.log ind))))
       go l = notif_there j ind k rs low high carried l (remains l) (part_fits l)
@@ -590,7 +590,7 @@ module _ (b : Board) (held : Held b) (ready : T b.started) (lo : 1 ≤ b.m) (hi 
       ended_write = refl
 
       none_left : (i : ℕ) → T (has i (set_of ended.remaining)) → T (touches b.m i (operations_of ended.count ended.items))
-      unfolding finished_of set_of in_mask if◌then◌else◌
+      unfolding finished_of set_of in_mask If◌then◌else◌
       none_left i t = absurd t
 
       abbrev shards : ℕ
@@ -636,8 +636,8 @@ module _ (b : Board) (held : Held b) (ready : T b.started) (lo : 1 ≤ b.m) (hi 
   executed_there : (ind k : ℕ) (rs : List Item) (carried : Carried k rs) (l : ind < b.len) → (entry_at b.log ind).exe ≡ is_exe (view_entry b.m (entry_at b.log ind)).status
       → fits_of (entry_at b.log ind).count (entry_at b.log ind).items k rs ≡ B.fits (reads_of k rs) (placed 0 (operations_of (entry_at b.log ind).count (entry_at b.log ind).items))
       → Judged ind
-      (if (entry_at b.log ind).exe then refuse_of 7 else
-      if not (fits_of (entry_at b.log ind).count (entry_at b.log ind).items k rs) then refuse_of 8 else
+      (If (entry_at b.log ind).exe then refuse_of 7 else
+      If not (fits_of (entry_at b.log ind).count (entry_at b.log ind).items k rs) then refuse_of 8 else
       record { answer = 0; entry = finished_of (entry_at b.log ind) k rs; fresh = false; len = b.len; shards = touched_of b.m (entry_at b.log ind).count (entry_at b.log ind).items; ack = 0; sends = true })
       (executed_step (view_board b) ind (reads_of k rs) (some (view_entry b.m (entry_at b.log ind))))
   unfolding executed_step

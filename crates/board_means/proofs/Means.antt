@@ -9,7 +9,7 @@ use Prim.Native.Nat.{ℕ, zero, suc, ◌-◌, ◌≤◌, ◌<◌}
 use native.Mathlib.Omega.{arith}
 use lib.Dec.{T, leb, ltb, eqb, leb→le, nltb→le}
 use lib.ListN.{length, get_or, take, drop, replicate, length-replicate}
-use Rattle.rules.specs.Lists.{if◌then◌else◌, within, at}
+use Rattle.rules.specs.Lists.{If◌then◌else◌, within, at}
 use Rattle.rules.specs.Frames as F
 use Rattle.rules.specs.Frames.{submit, forward, exec_notif, executed, ok_ind, ok_reads, ok_write, obeys, decode}
 use Rattle.rules.specs.Outcomes as O
@@ -49,9 +49,9 @@ use Rattle.board_means.proofs.Judged.{nothing_sent, Lifts, Judged, refusing, eit
 
 -- the same test on both sides
 both_ways : {A : Type 0} {B : Type 0} (R : A → B → Type 0) {x y : A} {p q : B} (t u : Bool) → t ≡ u → (T t → R x p) → (T (not t) → R y q)
-    → R (if t then x else y) (if u then p else q)
-both_ways R true u e f g = rw (← e) (unfold if◌then◌else◌ in (f tt))
-both_ways R false u e f g = rw (← e) (unfold if◌then◌else◌ in (g tt))
+    → R (If t then x else y) (If u then p else q)
+both_ways R true u e f g = rw (← e) (unfold If◌then◌else◌ in (f tt))
+both_ways R false u e f g = rw (← e) (unfold If◌then◌else◌ in (g tt))
 
 -- ---- A step on a frame
 

@@ -9,7 +9,7 @@ use native.Mathlib.Omega.{arith}
 use lib.Dec.{T, ltb, eqb, ltb→lt, lt→ltb}
 use lib.ListN.{length}
 use borrow.Author.Tests.{eq-eqb, ne_eqb, eqb-true, eqb-false}
-use Rattle.rules.specs.Lists.{if◌then◌else◌, ◌<?◌, ◌=?◌, snoc}
+use Rattle.rules.specs.Lists.{If◌then◌else◌, ◌<?◌, ◌=?◌, snoc}
 use Rattle.rules.specs.Transactions.{Write}
 use Rattle.rules.specs.Board.{next_number, one_further, find}
 use Rattle.rules.proofs.Lists.{T_true}
@@ -45,7 +45,7 @@ same_name a j c k h l = go (eqb a c) refl (eqb j k) refl
 
 -- a place in a list of so many, or none past its end
 abbrev pub place_in : ℕ → ℕ → Option ℕ
-place_in p count = if p <? count then some p else none
+place_in p count = If p <? count then some p else none
 
 further : (p count : ℕ) → one_further (place_in p count) ≡ place_in (suc p) (suc count)
 further p count = go (ltb p count) (ltb (suc p) (suc count)) (iff (ltb p count) (ltb (suc p) (suc count)) up down)
@@ -56,12 +56,12 @@ further p count = go (ltb p count) (ltb (suc p) (suc count)) (iff (ltb p count) 
     down : T (ltb (suc p) (suc count)) → T (ltb p count)
     down t = let h = ltb→lt (suc p) (suc count) t in lt→ltb p count (omega arith)
 
-    go : (s t : Bool) → s ≡ t → one_further (if s then some p else none) ≡ (if t then some (suc p) else none)
-    go true t e = rw (← e) (unfold if◌then◌else◌ in refl)
-    go false t e = rw (← e) (unfold if◌then◌else◌ in refl)
+    go : (s t : Bool) → s ≡ t → one_further (If s then some p else none) ≡ (If t then some (suc p) else none)
+    go true t e = rw (← e) (unfold If◌then◌else◌ in refl)
+    go false t e = rw (← e) (unfold If◌then◌else◌ in refl)
 
 pub find_is : (c k : ℕ) (ws : List Write) → k < 65536 → Small ws → find c k ws ≡ place_in (position_of (name_of c k) (map name_in ws)) (length ws)
-unfolding position_of if◌then◌else◌
+unfolding position_of If◌then◌else◌
 find_is c k [] h s = refl
 find_is c k (w ∷ ws) h s = go (find_is c k ws h s.1) (eqb w.client c && eqb w.number k) refl
   where
@@ -70,18 +70,18 @@ find_is c k (w ∷ ws) h s = go (find_is c k ws h s.1) (eqb w.client c && eqb w.
     go rest true e = rw (same_name w.client w.number c k s.0 h, ← e, T_true (ltb 0 (suc (length ws))) (lt→ltb 0 (suc (length ws)) (omega arith))) refl
     go rest false e = rw (same_name w.client w.number c k s.0 h, ← e) (ap one_further rest ∙ further (position_of (name_of c k) (map name_in ws)) (length ws))
 
-pub next_snoc : (c : ℕ) (ws : List Write) (w : Write) → next_number c (snoc ws w) ≡ (if w.client =? c then max (next_number c ws) (suc w.number) else next_number c ws)
-unfolding if◌then◌else◌
+pub next_snoc : (c : ℕ) (ws : List Write) (w : Write) → next_number c (snoc ws w) ≡ (If w.client =? c then max (next_number c ws) (suc w.number) else next_number c ws)
+unfolding If◌then◌else◌
 next_snoc c [] w = go (eqb w.client c)
   where
-    go : (t : Bool) → (if t then max (suc w.number) 0 else 0) ≡ (if t then max 0 (suc w.number) else 0)
+    go : (t : Bool) → (If t then max (suc w.number) 0 else 0) ≡ (If t then max 0 (suc w.number) else 0)
     go true = omega arith
     go false = refl
 next_snoc c (v ∷ ws) w = go (eqb v.client c) (eqb w.client c) (next_snoc c ws w)
   where
-    go : (s t : Bool) → next_number c (snoc ws w) ≡ (if t then max (next_number c ws) (suc w.number) else next_number c ws)
-        → (if s then max (suc v.number) (next_number c (snoc ws w)) else next_number c (snoc ws w))
-        ≡ (if t then max (if s then max (suc v.number) (next_number c ws) else next_number c ws) (suc w.number) else (if s then max (suc v.number) (next_number c ws) else next_number c ws))
+    go : (s t : Bool) → next_number c (snoc ws w) ≡ (If t then max (next_number c ws) (suc w.number) else next_number c ws)
+        → (If s then max (suc v.number) (next_number c (snoc ws w)) else next_number c (snoc ws w))
+        ≡ (If t then max (If s then max (suc v.number) (next_number c ws) else next_number c ws) (suc w.number) else (If s then max (suc v.number) (next_number c ws) else next_number c ws))
     go true true e = omega arith
     go true false e = omega arith
     go false true e = e

@@ -10,7 +10,7 @@ use denote.Struct.Laws as LL
 use lib.ListN.{length, take, drop, get_or, length-map, drop_of_length-le}
 use lib.Seq.{length-take-le}
 use borrow.Author.Tests.{le-leb, lt-leb}
-use Rattle.rules.specs.Lists.{if◌then◌else◌}
+use Rattle.rules.specs.Lists.{If◌then◌else◌}
 use Rattle.frames.proofs.Lists.{front_cons}
 use Rattle.lines.specs.Text.{l_line}
 use Rattle.lines.proofs.Short.{l_short}
@@ -63,7 +63,7 @@ module _ {board : ℕ} {log : List Entry} {len : ℕ} {l₀ : List ℕ} {k : ℕ
   pub logged_all :
       (b : Board) → b.log ≡ log → b.len ≡ len → length (take len log) ≤ k →
       (written ≡ length (log_lines board b (length l₀))) × (l ≡ standing (log_lines board b (length l₀)) l₀) × (written ≤ length l₀)
-  unfolding log_lines if◌then◌else◌
+  unfolding log_lines If◌then◌else◌
   logged_all b is-log is-len end =
       let e : take written l ≡ log_text board 0 (take len log) =
       sym (append-nil (take written l))
@@ -78,5 +78,5 @@ module _ {board : ℕ} {log : List Entry} {len : ℕ} {l₀ : List ℕ} {k : ℕ
 
 pub logged_none : (board : ℕ) (b : Board) (l : List ℕ) → length l < 32768
     → (0 ≡ length (log_lines board b (length l))) × (l ≡ standing (log_lines board b (length l)) l) × (0 ≤ length l)
-unfolding log_lines if◌then◌else◌
+unfolding log_lines If◌then◌else◌
 logged_none board b l h = rw (lt-leb 32768 (length l) h) (refl, refl, omega arith)

@@ -9,7 +9,7 @@ use native.Mathlib.Omega.{arith}
 use lib.Dec.{leb, leb→le}
 use lib.ListN.{length, get_or}
 use borrow.Author.Tests.{lt-leb, le-ltb}
-use Rattle.rules.specs.Lists.{if◌then◌else◌, within}
+use Rattle.rules.specs.Lists.{If◌then◌else◌, within}
 use Rattle.rules.proofs.Lists.{by, and_r}
 use Rattle.board.specs.declared.Board.{Board}
 use Rattle.board.specs.declared.Started.{Started as BoardStarted}
@@ -79,7 +79,7 @@ nothing_delivered r first room = refl
 -- the first record skipped, or delivered twice: what is left is to go on behind it, with its line written
 pub first_record : (r : Register) (first x : ℕ) (xs : List ℕ) (room address end : ℕ) → first < 18446744073709551615 → 128 ≤ room → next_of (x ∷ xs) ≡ Record address end
     → delivered r first (x ∷ xs) room ≡ runs (length xs) (x ∷ xs) room (after (begun r first) end (turn_of r address (frame_at (x ∷ xs) 0 end)))
-unfolding runs onward if◌then◌else◌
+unfolding runs onward If◌then◌else◌
 first_record r first x xs room address end low wide e = rw (lt-leb 18446744073709551615 first low, le-ltb (room - 0) 128 (omega arith), e)
 
 -- ---- log_lines

@@ -12,7 +12,7 @@ use mathlib.Core.Logic.{⊎_elim}
 use types.Run.{OneOf}
 use denote.Enum.Declared.{tag_of}
 use borrow.Author.Tests.{lt-ltb, le-ltb, le-leb, lt-leb}
-use Rattle.rules.specs.Lists.{if◌then◌else◌}
+use Rattle.rules.specs.Lists.{If◌then◌else◌}
 use Rattle.lines.specs.Text.{d_line}
 use Rattle.lines.proofs.Short.{d_short}
 use Rattle.delivery.specs.declared.Register.{Register}
@@ -33,12 +33,12 @@ goes_on :
     (most : ℕ) (input : List ℕ) (room : ℕ) (run : Run) (address end : ℕ) →
     run.index < last → length run.text + 128 ≤ room → next_of (drop run.taken input) ≡ Record address end →
     runs (suc most) input room run ≡ runs most input room (after run end (turn_of run.register address (frame_at input run.taken end)))
-unfolding runs onward if◌then◌else◌
+unfolding runs onward If◌then◌else◌
 goes_on most input room run address end i r e =
     rw (lt-leb last run.index i, le-ltb (room - length run.text) 128 (omega arith), e)
 
 stops_full : (most : ℕ) (input : List ℕ) (room : ℕ) (run : Run) → full room run ≡ true → runs most input room run ≡ run
-unfolding runs if◌then◌else◌
+unfolding runs If◌then◌else◌
 stops_full zero input room run e = refl
 stops_full (suc most) input room run e = rw e
 
@@ -55,11 +55,11 @@ onward_ended input run Need more e = refl
 onward_ended input run Cut more e = refl
 
 stops_ended : (most : ℕ) (input : List ℕ) (room : ℕ) (run : Run) → Ended (next_of (drop run.taken input)) → runs most input room run ≡ run
-unfolding runs if◌then◌else◌
+unfolding runs If◌then◌else◌
 stops_ended zero input room run e = refl
 stops_ended (suc most) input room run e = by (full room run)
   where
-    by : (t : Bool) → (if t then run else onward input run (next_of (drop run.taken input)) (runs most input room)) ≡ run
+    by : (t : Bool) → (If t then run else onward input run (next_of (drop run.taken input)) (runs most input room)) ≡ run
     by true = refl
     by false = onward_ended input run (next_of (drop run.taken input)) (runs most input room) e
 

@@ -8,7 +8,7 @@ use native.Mathlib.Omega.{arith}
 use lib.ListN.{length, get_or}
 use lib.Dec.{leb→le}
 use borrow.Author.Tests.{eq-eqb, ne_eqb}
-use Rattle.rules.specs.Lists.{if◌then◌else◌, within, ◌≤?◌}
+use Rattle.rules.specs.Lists.{If◌then◌else◌, within, ◌≤?◌}
 use Rattle.rules.specs.Answers.{not_for_me}
 use Rattle.rules.proofs.Lists.{and_l, and_r}
 use Rattle.board.specs.declared.Board.{Board}
@@ -43,11 +43,11 @@ module _ (r : Register) (address : ℕ) (frame : List ℕ) (whom : Receiver) (to
         ∙ ap (board_turn r i) (sym stepped)
 
     pub board_taken : s.answer ≡ 0 → turn_of r address frame ≡ record { register = with_board r i s.board; answer = s.answer; frames = s.frames }
-    unfolding board_turn if◌then◌else◌
+    unfolding board_turn If◌then◌else◌
     board_taken a = board_turned ∙ rw (eq-eqb s.answer 0 a)
 
     pub board_refused : (s.answer ≡ 0 → ⊥) → turn_of r address frame ≡ record { register = r; answer = s.answer; frames = s.frames }
-    unfolding board_turn if◌then◌else◌
+    unfolding board_turn If◌then◌else◌
     board_refused a = board_turned ∙ rw (ne_eqb s.answer 0 a)
 
   module _ (i : ℕ) (d : Shard) (s : ShardStepped) (e : whom ≡ to_shard i) (inside : i < length r.shards) (stepped : s ≡ shard_step (get_or r.shards i d) frame 68) where
@@ -59,20 +59,20 @@ module _ (r : Register) (address : ℕ) (frame : List ℕ) (whom : Receiver) (to
         ∙ ap (shard_turn r i) (sym stepped)
 
     pub shard_taken : s.answer ≡ 0 → turn_of r address frame ≡ record { register = with_shard r i s.shard; answer = s.answer; frames = s.frames }
-    unfolding shard_turn if◌then◌else◌
+    unfolding shard_turn If◌then◌else◌
     shard_taken a = shard_turned ∙ rw (eq-eqb s.answer 0 a)
 
     pub shard_refused : (s.answer ≡ 0 → ⊥) → turn_of r address frame ≡ record { register = r; answer = s.answer; frames = s.frames }
-    unfolding shard_turn if◌then◌else◌
+    unfolding shard_turn If◌then◌else◌
     shard_refused a = shard_turned ∙ rw (ne_eqb s.answer 0 a)
 
 -- an address names one of 8 boards or of 8 shard groups
 pub board_within : (n m address i : ℕ) → receiver_of n m address ≡ to_board i → i < 8
-unfolding receiver_of if◌then◌else◌
+unfolding receiver_of If◌then◌else◌
 board_within n m address i e = by (within 1 8 address && address ≤? n) (within 17 24 address && address - 16 ≤? m) refl e
   where
     by : (t u : Bool) → within 1 8 address && address ≤? n ≡ t
-        → (if t then to_board (address - 1) else if u then to_shard (address - 17) else to_nobody) ≡ to_board i → i < 8
+        → (If t then to_board (address - 1) else If u then to_shard (address - 17) else to_nobody) ≡ to_board i → i < 8
     by true u a p =
         let z : address - 1 ≡ i = cc in
         omega (arith, leb→le address 8 (and_r (1 ≤? address) (address ≤? 8) (and_l (within 1 8 address) (address ≤? n) (rw a tt))))
@@ -80,11 +80,11 @@ board_within n m address i e = by (within 1 8 address && address ≤? n) (within
     by false false a p = let z : ◌≡◌ {A = ℕ} 0 1 = cc in absurd (omega arith)
 
 pub shard_within : (n m address i : ℕ) → receiver_of n m address ≡ to_shard i → i < 8
-unfolding receiver_of if◌then◌else◌
+unfolding receiver_of If◌then◌else◌
 shard_within n m address i e = by (within 1 8 address && address ≤? n) (within 17 24 address && address - 16 ≤? m) refl e
   where
     by : (t u : Bool) → within 17 24 address && address - 16 ≤? m ≡ u
-        → (if t then to_board (address - 1) else if u then to_shard (address - 17) else to_nobody) ≡ to_shard i → i < 8
+        → (If t then to_board (address - 1) else If u then to_shard (address - 17) else to_nobody) ≡ to_shard i → i < 8
     by true u a p = let z : ◌≡◌ {A = ℕ} 0 1 = cc in absurd (omega arith)
     by false true a p =
         let z : address - 17 ≡ i = cc in

@@ -1,7 +1,7 @@
 -- Records delivered one after the other, and their lines.
 -- Assumes nothing.
 use Rattle.std.specs.Prelude.{Bool, ◌||◌, List, [], ◌++◌, ℕ, zero, suc, ◌+◌, ◌-◌, length, take, drop}
-use Rattle.rules.specs.Lists.{if◌then◌else◌, ◌<?◌, ◌≤?◌}
+use Rattle.rules.specs.Lists.{If◌then◌else◌, ◌<?◌, ◌≤?◌}
 use Rattle.lines.specs.Text.{d_line}
 use Rattle.delivery.specs.declared.Register.{Register}
 use Rattle.delivery.specs.declared.Delivered.{Delivered}
@@ -39,7 +39,7 @@ full room run = 18446744073709551615 ≤? run.index || room - length run.text <?
 -- at most so many records
 unfoldable pub runs : (most : ℕ) (input : List ℕ) (room : ℕ) → Run → Run
 runs zero input room run = run
-runs (suc most) input room run = if full room run then run else onward input run (next_of (drop run.taken input)) (runs most input room)
+runs (suc most) input room run = If full room run then run else onward input run (next_of (drop run.taken input)) (runs most input room)
 
 abbrev pub begun : Register → (first : ℕ) → Run
 begun r first = record { register = r; index = first; taken = 0; text = [] }

@@ -1,7 +1,7 @@
 -- The lines of a board's log.
 -- Assumes nothing.
 use Rattle.std.specs.Prelude.{List, [], ◌∷◌, ◌++◌, ℕ, ◌+◌, take}
-use Rattle.rules.specs.Lists.{if◌then◌else◌, ◌≤?◌}
+use Rattle.rules.specs.Lists.{If◌then◌else◌, ◌≤?◌}
 use Rattle.lines.specs.Text.{l_line}
 use Rattle.entry.specs.declared.Entry.{Entry}
 use Rattle.board.specs.declared.Board.{Board}
@@ -13,4 +13,4 @@ log_text board log_number (e ∷ es) = l_line board log_number e.client e.number
 
 -- of a whole log; 256 lines of less than 128 bytes find room in every area of 32,768
 unfoldable pub log_lines : (board : ℕ) → Board → (room : ℕ) → List ℕ
-log_lines board b room = if 32768 ≤? room then log_text board 0 (take b.len b.log) else []
+log_lines board b room = If 32768 ≤? room then log_text board 0 (take b.len b.log) else []

@@ -1,7 +1,7 @@
 -- The register under test: its boards and shard groups as they start, and what a record does to them.
 -- Assumes nothing.
 use Rattle.std.specs.Prelude.{List, [], ◌∷◌, ℕ, get_or, set}
-use Rattle.rules.specs.Lists.{if◌then◌else◌, ◌=?◌}
+use Rattle.rules.specs.Lists.{If◌then◌else◌, ◌=?◌}
 use Rattle.rules.specs.Answers.{done, not_for_me}
 use Rattle.rules.specs.Outcomes.{least_out}
 use Rattle.board.specs.declared.Board.{Board}
@@ -49,10 +49,10 @@ with_shard r i s = record { n = r.n; m = r.m; boards = r.boards; shards = set r.
 
 -- a refused step leaves the register as it was
 unfoldable pub board_turn : Register → ℕ → BoardStepped → Turn
-board_turn r i s = record { register = if s.answer =? done then with_board r i s.board else r; answer = s.answer; frames = s.frames }
+board_turn r i s = record { register = If s.answer =? done then with_board r i s.board else r; answer = s.answer; frames = s.frames }
 
 unfoldable pub shard_turn : Register → ℕ → ShardStepped → Turn
-shard_turn r i s = record { register = if s.answer =? done then with_shard r i s.shard else r; answer = s.answer; frames = s.frames }
+shard_turn r i s = record { register = If s.answer =? done then with_shard r i s.shard else r; answer = s.answer; frames = s.frames }
 
 -- "Frames sent are counted, not delivered. An address that names nobody: answer 2, 0 frames."
 unfoldable pub turn_at : Register → (frame : List ℕ) → Receiver → Turn

@@ -8,7 +8,7 @@ use Prim.Native.Nat.{ℕ, zero, suc, ◌≤◌, ◌<◌}
 use native.Mathlib.Omega.{arith}
 use lib.Dec.{T, leb, eqb, leb→le, eqb→eq, T_not}
 use lib.ListN.{length, get_or, set, take, replicate, length-set, length-replicate}
-use Rattle.rules.specs.Lists.{if◌then◌else◌, at, is_empty, every, has, strike}
+use Rattle.rules.specs.Lists.{If◌then◌else◌, at, is_empty, every, has, strike}
 use Rattle.rules.specs.Transactions.{Operation, Write, Read, key_of, shard_of, touched, placed, keep, on_shard, get_places, gather}
 use Rattle.rules.specs.Frames.{ok_reads}
 use Rattle.rules.specs.Board as B
@@ -101,16 +101,16 @@ pub exe_view : (m : ℕ) (e : Entry) → B.is_exe (view_entry m e).status ≡ e.
 unfolding view_entry
 exe_view m e = go e.exe
   where
-    go : (t : Bool) → B.is_exe (if t then B.EXE else B.PRE) ≡ t
-    go true = unfold if◌then◌else◌ in refl
-    go false = unfold if◌then◌else◌ in refl
+    go : (t : Bool) → B.is_exe (If t then B.EXE else B.PRE) ≡ t
+    go true = unfold If◌then◌else◌ in refl
+    go false = unfold If◌then◌else◌ in refl
 
 abbrev pub the_write : ℕ → ℕ → ℕ → List Item → Write
 the_write client number count items = record { client = client; number = number; operations = operations_of count items }
 
 pub new_view : (m client number count : ℕ) (items : List Item) → 1 ≤ m → m ≤ 8
     → view_entry m (new_entry_of m client number count items) ≡ B.new_entry m (the_write client number count items)
-unfolding view_entry new_entry_of write_of B.new_entry if◌then◌else◌
+unfolding view_entry new_entry_of write_of B.new_entry If◌then◌else◌
 new_view m client number count items lo hi =
     let e = touched_set m count items lo hi in
     let os : List Operation = operations_of count items in
@@ -207,7 +207,7 @@ module _ (m : ℕ) (e : Entry) (held : EntryHeld m e) (j k : ℕ) (rs : List Ite
       λ i.
       record {
         write = record { client = e.client; number = e.number; operations = os };
-        status = if none i then EXE else PRE;
+        status = If none i then EXE else PRE;
         reads = heard_reads i;
         remaining = set i;
       }
@@ -274,7 +274,7 @@ module _ (m : ℕ) (e : Entry) (held : EntryHeld m e) (k : ℕ) (rs : List Item)
   fits_all = same_eq (map (λ (r : Read). r.place) (reads_of k rs)) (get_places (placed 0 all)) fit ∙ ap get_places whole
 
   nobody : (key : ℕ) → heard_key m (set_of 0) key ≡ true
-  unfolding set_of in_mask if◌then◌else◌
+  unfolding set_of in_mask If◌then◌else◌
   nobody key = refl
 
   finished_reads : gather (keep (heard_key m (set_of 0)) (placed 0 all)) (saw (stored_all no_items (take k rs))) ≡ reads_of k rs
@@ -283,11 +283,11 @@ module _ (m : ℕ) (e : Entry) (held : EntryHeld m e) (k : ℕ) (rs : List Item)
       ∙ stored_reads 0 (keep (λ key. true) (placed 0 all)) no_items (take k rs) (taken_rise 0 k rs carried.items) (length-replicate 4 no_item) fits_all
 
   no_shards : set_of 0 ≡ []
-  unfolding set_of in_mask if◌then◌else◌
+  unfolding set_of in_mask If◌then◌else◌
   no_shards = refl
 
   pub finished_view : view_entry m (finished_of e k rs) ≡ B.finished (reads_of k rs) (view_entry m e)
-  unfolding view_entry finished_of stored_of write_of B.finished if◌then◌else◌
+  unfolding view_entry finished_of stored_of write_of B.finished If◌then◌else◌
   finished_view =
       λ i. record { write = record { client = e.client; number = e.number; operations = all }; status = EXE; reads = finished_reads i; remaining = no_shards i }
 

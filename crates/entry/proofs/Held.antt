@@ -10,7 +10,7 @@ use native.Mathlib.Nat.{add-zero}
 use native.Mathlib.Omega.{arith}
 use lib.Dec.{T, leb, eqb, leb→le, le→leb}
 use lib.ListN.{length, get_or, take, replicate}
-use Rattle.rules.specs.Lists.{if◌then◌else◌, at}
+use Rattle.rules.specs.Lists.{If◌then◌else◌, at}
 use Rattle.rules.specs.Transactions as R
 use Rattle.rules.specs.Transactions.{get, put, key_of, shard_of, placed, keep, gather}
 use Rattle.rules.proofs.Lists.{by, and, and_l, and_r}
@@ -107,8 +107,8 @@ reads_right ok zs p (suc n) (x ∷ xs) (y ∷ ys) l k h =
 -- one slot more
 slot_view : (see : ℕ → Option ℕ) (p : ℕ) (x y : Item) (ys : List Item) (xs : List R.Placed) (g t : Bool) → (T (g && t) → as_read y ≡ record { place = p; value = see p })
     → map as_read ys ≡ gather xs see
-    → map as_read (if g && t then y ∷ ys else ys) ≡ gather (if t then record { place = p; operation = if g then get x.key else put x.key x.value } ∷ xs else xs) see
-unfolding if◌then◌else◌
+    → map as_read (If g && t then y ∷ ys else ys) ≡ gather (If t then record { place = p; operation = If g then get x.key else put x.key x.value } ∷ xs else xs) see
+unfolding If◌then◌else◌
 slot_view see p x y ys xs true true f e = λ i. f tt i ∷ e i
 slot_view see p x y ys xs true false f e = e
 slot_view see p x y ys xs false true f e = e

@@ -8,7 +8,7 @@ use native.Mathlib.Omega.{arith}
 use lib.Dec.{leb, eqb}
 use lib.Pow.{shr-shr}
 use borrow.Author.Tests.{leb-true, eqb-true, eqb-false, le-leb}
-use Rattle.rules.specs.Lists.{if◌then◌else◌, within}
+use Rattle.rules.specs.Lists.{If◌then◌else◌, within}
 use Rattle.entry.specs.Model.{bit_of, in_mask, insert_of, strike_of}
 
 -- the digit k of x, counted from the lowest
@@ -158,9 +158,9 @@ module _ (mask j : ℕ) where
       out true e h = let d : x ≡ j = eqb-true x j (sym e) in rw d h
       out false e h = refl
 
-      go : (b : Bool) → in_mask mask j ≡ b → in_mask (if b then mask - bit_of j else mask) x ≡ (not (eqb x j) && in_mask mask x)
-      go true h = unfold if◌then◌else◌ in (strike_at x (eqb x j) refl h)
-      go false h = unfold if◌then◌else◌ in (out (eqb x j) refl h)
+      go : (b : Bool) → in_mask mask j ≡ b → in_mask (If b then mask - bit_of j else mask) x ≡ (not (eqb x j) && in_mask mask x)
+      go true h = unfold If◌then◌else◌ in (strike_at x (eqb x j) refl h)
+      go false h = unfold If◌then◌else◌ in (out (eqb x j) refl h)
 
   module _ (lo : 1 ≤ j) (hi : j ≤ 8) where
     insert_at : (x : ℕ) → (t : Bool) → t ≡ eqb x j → in_mask mask j ≡ false → in_mask (mask + bit_of j) x ≡ (t || in_mask mask x)
@@ -179,9 +179,9 @@ module _ (mask j : ℕ) where
         held true e h = let d : x ≡ j = eqb-true x j (sym e) in rw d h
         held false e h = refl
 
-        go : (b : Bool) → in_mask mask j ≡ b → in_mask (if not b then mask + bit_of j else mask) x ≡ (eqb x j || in_mask mask x)
-        go true h = unfold if◌then◌else◌ in (held (eqb x j) refl h)
-        go false h = unfold if◌then◌else◌ in (insert_at x (eqb x j) refl h)
+        go : (b : Bool) → in_mask mask j ≡ b → in_mask (If not b then mask + bit_of j else mask) x ≡ (eqb x j || in_mask mask x)
+        go true h = unfold If◌then◌else◌ in (held (eqb x j) refl h)
+        go false h = unfold If◌then◌else◌ in (insert_at x (eqb x j) refl h)
 
 -- a byte without a shard is 0
 digits_zero : (n x : ℕ) → x < 2 ^ n → ((k : ℕ) → k < n → digit k x ≡ 0) → x ≡ 0

@@ -9,7 +9,7 @@ use native.Mathlib.Omega.{arith}
 use lib.Dec.{T, leb, eqb, eqb→eq}
 use lib.ListN.{length, take}
 use mir.Facts.{yes_eqb, eqb_no}
-use Rattle.rules.specs.Lists.{if◌then◌else◌, same}
+use Rattle.rules.specs.Lists.{If◌then◌else◌, same}
 use Rattle.rules.specs.Transactions as R
 use Rattle.rules.specs.Transactions.{get, put, Read, key_of, shard_of, placed, keep, on_shard, get_place, get_places, same_operations, same_write}
 use Rattle.rules.specs.Board as B
@@ -45,11 +45,11 @@ kept_view ok key_ok f i (suc n) (x ∷ xs) c h =
     go (ok x) (key_ok (key_of (as_operation x))) (f x ∙ ap key_ok (sym (key_of_lem x))) (kept_view ok key_ok f (suc i) n xs c.1 (omega arith))
   where
     go : (a b : Bool) → a ≡ b → map as_placed (beside ok (take n xs) xs) ≡ keep key_ok (placed (suc i) (map as_operation (take n xs)))
-        → map as_placed (if a then x ∷ beside ok (take n xs) xs else beside ok (take n xs) xs)
-        ≡ (if b then record { place = i; operation = as_operation x } ∷ keep key_ok (placed (suc i) (map as_operation (take n xs)))
+        → map as_placed (If a then x ∷ beside ok (take n xs) xs else beside ok (take n xs) xs)
+        ≡ (If b then record { place = i; operation = as_operation x } ∷ keep key_ok (placed (suc i) (map as_operation (take n xs)))
         else keep key_ok (placed (suc i) (map as_operation (take n xs))))
-    go true b e r = rw (← e) (unfold if◌then◌else◌ in (λ k. record { place = c.0.0 k; operation = as_operation x } ∷ r k))
-    go false b e r = rw (← e) (unfold if◌then◌else◌ in r)
+    go true b e r = rw (← e) (unfold If◌then◌else◌ in (λ k. record { place = c.0.0 k; operation = as_operation x } ∷ r k))
+    go false b e r = rw (← e) (unfold If◌then◌else◌ in r)
 
 pub part_view : (m j count : ℕ) (items : List Item) → 1 ≤ m → Canon AnOperation count items → count ≤ length items
     → placed_of (part_on m j count items).count (part_on m j count items).items ≡ on_shard m j (operations_of count items)
@@ -92,7 +92,7 @@ zero_value : (x : Item) → ItemRules x → x.code ≡ 0 → x.value ≡ 0
 zero_value x r e = r.value e
 
 same_view : (x y : Item) → T (ok_item x) → T (ok_item y) → same_operation x y ≡ R.same_operation (as_operation x) (as_operation y)
-unfolding if◌then◌else◌
+unfolding If◌then◌else◌
 same_view x y hx hy = go (eqb x.code 0) refl (eqb y.code 0) refl
   where
     rx : ItemRules x
@@ -102,7 +102,7 @@ same_view x y hx hy = go (eqb x.code 0) refl (eqb y.code 0) refl
     ry = item_rules y hy
 
     go : (a : Bool) → a ≡ eqb x.code 0 → (b : Bool) → b ≡ eqb y.code 0
-        → same_operation x y ≡ R.same_operation (if a then get x.key else put x.key x.value) (if b then get y.key else put y.key y.value)
+        → same_operation x y ≡ R.same_operation (If a then get x.key else put x.key x.value) (If b then get y.key else put y.key y.value)
     go true p true q =
         let cx : x.code ≡ 0 = eqb→eq x.code 0 (rw (← p) tt) in
         let cy : y.code ≡ 0 = eqb→eq y.code 0 (rw (← q) tt) in
@@ -164,10 +164,10 @@ gets_view (suc n) [] h = absurd (omega arith)
 gets_view (suc n) (x ∷ xs) h = go (eqb x.code 0) (gets_view n xs (omega arith))
   where
     go : (t : Bool) → map (λ (y : Item). y.place) (beside M.is_get (take n xs) xs) ≡ get_places (map as_placed (take n xs))
-        → map (λ (y : Item). y.place) (if t then x ∷ beside M.is_get (take n xs) xs else beside M.is_get (take n xs) xs)
-        ≡ get_place (as_placed x) (if t then get x.key else put x.key x.value) (get_places (map as_placed (take n xs)))
-    go true e = unfold if◌then◌else◌ in (ap {B = List ℕ} (λ l. x.place ∷ l) e)
-    go false e = unfold if◌then◌else◌ in e
+        → map (λ (y : Item). y.place) (If t then x ∷ beside M.is_get (take n xs) xs else beside M.is_get (take n xs) xs)
+        ≡ get_place (as_placed x) (If t then get x.key else put x.key x.value) (get_places (map as_placed (take n xs)))
+    go true e = unfold If◌then◌else◌ in (ap {B = List ℕ} (λ l. x.place ∷ l) e)
+    go false e = unfold If◌then◌else◌ in e
 
 agree_places : (xs rs : List Item) → agree same_place xs rs ≡ same (map (λ (r : Read). r.place) (map as_read rs)) (map (λ (x : Item). x.place) xs)
 agree_places [] [] = refl

@@ -10,7 +10,7 @@ use native.Mathlib.Omega.{arith}
 use lib.Dec.{eqb}
 use lib.ListN.{length, take, length-take}
 use mir.Facts.{no_eqb}
-use Rattle.rules.specs.Lists.{if◌then◌else◌, has}
+use Rattle.rules.specs.Lists.{If◌then◌else◌, has}
 use Rattle.rules.proofs.Lists.{by, T_false}
 use Rattle.frames.specs.declared.Item.{Item}
 use Rattle.entry.specs.declared.Entry.{Entry}
@@ -60,7 +60,7 @@ another_read_count count items read_count reads d = rw (differ d)
 -- ---- no_entry
 
 nobody : set_of 0 ≡ []
-unfolding set_of in_mask if◌then◌else◌
+unfolding set_of in_mask If◌then◌else◌
 nobody = refl
 
 -- a shard to hear from

@@ -9,7 +9,7 @@ use native.Mathlib.Omega.{arith}
 use lib.Dec.{T, eqb, eqb→eq, eqb_refl}
 use lib.ListN.{take}
 use mir.Facts.{yes_eqb, no_eqb, eqb_no}
-use Rattle.rules.specs.Lists.{if◌then◌else◌, is_empty, has, insert, strike}
+use Rattle.rules.specs.Lists.{If◌then◌else◌, is_empty, has, insert, strike}
 use Rattle.rules.specs.Transactions.{shard_of, touched}
 use Rattle.rules.specs.Kept.{Ascending}
 use Rattle.rules.proofs.Lists.{by, if_yes, if_no, or_cases, or_left, or_right, T_true, T_false}
@@ -123,7 +123,7 @@ insert_set mask j lo hi =
 pub empty_set : (mask : ℕ) → mask < 256 → is_empty (set_of mask) ≡ is_empty_of mask
 empty_set mask h =
     iff (is_empty (set_of mask)) (is_empty_of mask) (λ t. yes_eqb (empty_mask mask h (λ x. T_false (in_mask mask x) (none (set_of mask) t x (in_set mask x)))))
-    (λ t. let e : mask ≡ 0 = eqb→eq mask 0 t in rw e (unfold set_of in_mask if◌then◌else◌ in tt))
+    (λ t. let e : mask ≡ 0 = eqb→eq mask 0 t in rw e (unfold set_of in_mask If◌then◌else◌ in tt))
   where
     none : (l : List ℕ) → T (is_empty l) → (x : ℕ) → has x l ≡ in_mask mask x → T (not (in_mask mask x))
     none [] t x e = rw (← e) tt
@@ -140,7 +140,7 @@ unfolding shard_of
 shard_range m key lo hi = let h = mod-lt key {m = m} (omega arith) in (omega arith, omega arith)
 
 touched_all : (m : ℕ) → 1 ≤ m → m ≤ 8 → (xs : List Item) → set_of (touched_mask m xs) ≡ touched m (map as_operation xs)
-touched_all m lo hi [] = unfold set_of in_mask if◌then◌else◌ in refl
+touched_all m lo hi [] = unfold set_of in_mask If◌then◌else◌ in refl
 touched_all m lo hi (x ∷ xs) =
     let r = shard_range m x.key lo hi in
     ap (λ j. set_of (insert_of (touched_mask m xs) j)) (shard_number_lem m x.key lo)

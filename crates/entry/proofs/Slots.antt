@@ -9,7 +9,7 @@ use lib.Dec.{leb, ltb, eqb}
 use lib.ListN.{length, get_or, take, replicate, length-append, length-replicate}
 use lib.Seq.{take-append_seam, set-append_seam, append_snoc, take-nil}
 use borrow.Author.Tests.{lt-ltb, lt-leb, eqb-true}
-use Rattle.rules.specs.Lists.{if◌then◌else◌}
+use Rattle.rules.specs.Lists.{If◌then◌else◌}
 use Rattle.rules.proofs.Lists.{by}
 use Rattle.frames.specs.declared.Item.{Item}
 use Rattle.frames.specs.Frames.{no_item}
@@ -23,24 +23,24 @@ more n = suc (suc (suc (suc n)))
 
 -- an item, or none
 abbrev one : Bool → Item → List Item
-one t x = if t then x ∷ [] else []
+one t x = If t then x ∷ [] else []
 
 one_few : (t : Bool) (x : Item) → length (one t x) ≤ 1
-unfolding if◌then◌else◌
+unfolding If◌then◌else◌
 one_few true x = omega arith
 one_few false x = omega arith
 
 -- in front of a list, or not
 abbrev put : Bool → Item → List Item → List Item
-put t x l = if t then x ∷ l else l
+put t x l = If t then x ∷ l else l
 
 one_then : (t : Bool) (x : Item) (l : List Item) → one t x ++ l ≡ put t x l
-unfolding if◌then◌else◌
+unfolding If◌then◌else◌
 one_then true x l = refl
 one_then false x l = refl
 
 with_part : (xs : List Item) (t : Bool) (x : Item) → length xs ≤ 3 → with_of (part_of xs) t x ≡ part_of (xs ++ one t x)
-unfolding with_of if◌then◌else◌
+unfolding with_of If◌then◌else◌
 with_part xs true x h =
     let e : 4 - length xs ≡ suc (3 - length xs) = omega arith in
     let f : length (xs ++ (x ∷ [])) ≡ length xs + 1 = length-append xs (x ∷ []) in
@@ -74,10 +74,10 @@ beside_four ok n a b c d a' b' c' d' =
   where
     go : (n : ℕ) → picked (ltb 0 n && ok a) (ltb 1 n && ok b) (ltb 2 n && ok c) (ltb 3 n && ok d) a' b' c' d'
         ≡ beside ok (take n (a ∷ b ∷ c ∷ d ∷ [])) (a' ∷ b' ∷ c' ∷ d' ∷ [])
-    go zero = unfold if◌then◌else◌ in refl
-    go (suc zero) = unfold if◌then◌else◌ in (one_then (ok a) a' [])
-    go (suc (suc zero)) = unfold if◌then◌else◌ in (one_then (ok a) a' _ ∙ ap (put (ok a) a') (one_then (ok b) b' []))
-    go (suc (suc (suc zero))) = unfold if◌then◌else◌ in (one_then (ok a) a' _ ∙ ap (put (ok a) a') (one_then (ok b) b' _ ∙ ap (put (ok b) b') (one_then (ok c) c' [])))
+    go zero = unfold If◌then◌else◌ in refl
+    go (suc zero) = unfold If◌then◌else◌ in (one_then (ok a) a' [])
+    go (suc (suc zero)) = unfold If◌then◌else◌ in (one_then (ok a) a' _ ∙ ap (put (ok a) a') (one_then (ok b) b' []))
+    go (suc (suc (suc zero))) = unfold If◌then◌else◌ in (one_then (ok a) a' _ ∙ ap (put (ok a) a') (one_then (ok b) b' _ ∙ ap (put (ok b) b') (one_then (ok c) c' [])))
     go (suc (suc (suc (suc n)))) =
         rw (lt-ltb 0 (more n) (omega arith), lt-ltb 1 (more n) (omega arith), lt-ltb 2 (more n) (omega arith), lt-ltb 3 (more n) (omega arith), take-nil n)
         (one_then (ok a) a' _ ∙ ap (put (ok a) a') (one_then (ok b) b' _ ∙ ap (put (ok b) b') (one_then (ok c) c' _)))
@@ -85,7 +85,7 @@ beside_four ok n a b c d a' b' c' d' =
 -- the shards touched
 touched_four : (m n : ℕ) (a b c d : Item)
     → touch_of (touch_of (touch_of (touch_of 0 m (ltb 3 n) d) m (ltb 2 n) c) m (ltb 1 n) b) m (ltb 0 n) a ≡ touched_mask m (take n (a ∷ b ∷ c ∷ d ∷ []))
-unfolding if◌then◌else◌
+unfolding If◌then◌else◌
 touched_four m zero a b c d = refl
 touched_four m (suc zero) a b c d = refl
 touched_four m (suc (suc zero)) a b c d = refl
@@ -96,7 +96,7 @@ touched_four m (suc (suc (suc (suc n)))) a b c d =
 -- each read kept at its place
 stored_four : (n : ℕ) (old : List Item) (a b c d : Item)
     → keep_read (keep_read (keep_read (keep_read old (ltb 0 n) a) (ltb 1 n) b) (ltb 2 n) c) (ltb 3 n) d ≡ stored_all old (take n (a ∷ b ∷ c ∷ d ∷ []))
-unfolding if◌then◌else◌
+unfolding If◌then◌else◌
 stored_four zero old a b c d = refl
 stored_four (suc zero) old a b c d = refl
 stored_four (suc (suc zero)) old a b c d = refl

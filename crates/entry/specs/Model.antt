@@ -2,7 +2,7 @@
 -- every input. What it means in the rules' words is in View.
 -- Assumes nothing.
 use Rattle.std.specs.Prelude.{Bool, true, false, not, ◌&&◌, List, [], ◌∷◌, ◌++◌, ℕ, ◌+◌, ◌-◌, ◌/◌, ◌%◌, ◌^◌, length, set, take, replicate}
-use Rattle.rules.specs.Lists.{if◌then◌else◌, ◌<?◌, ◌=?◌, within}
+use Rattle.rules.specs.Lists.{If◌then◌else◌, ◌<?◌, ◌=?◌, within}
 use Rattle.rules.specs.Transactions.{shard_of}
 use Rattle.frames.specs.declared.Item.{Item}
 use Rattle.frames.specs.Frames.{no_item}
@@ -20,10 +20,10 @@ in_mask mask shard = within 1 8 shard && mask / bit_of shard % 2 =? 1
 
 -- there is no shard 0, nor one above 8
 unfoldable pub insert_of : ℕ → ℕ → ℕ
-insert_of mask shard = if within 1 8 shard && not (in_mask mask shard) then mask + bit_of shard else mask
+insert_of mask shard = If within 1 8 shard && not (in_mask mask shard) then mask + bit_of shard else mask
 
 unfoldable pub strike_of : ℕ → ℕ → ℕ
-strike_of mask shard = if in_mask mask shard then mask - bit_of shard else mask
+strike_of mask shard = If in_mask mask shard then mask - bit_of shard else mask
 
 abbrev pub is_empty_of : ℕ → Bool
 is_empty_of mask = mask =? 0
@@ -32,10 +32,10 @@ is_empty_of mask = mask =? 0
 
 -- without shards a key belongs to none, 0
 unfoldable pub shard_number : ℕ → ℕ → ℕ
-shard_number m key = if m =? 0 then 0 else shard_of m key
+shard_number m key = If m =? 0 then 0 else shard_of m key
 
 abbrev pub touch_of : ℕ → ℕ → Bool → Item → ℕ
-touch_of mask m there x = if there then insert_of mask (shard_number m x.key) else mask
+touch_of mask m there x = If there then insert_of mask (shard_number m x.key) else mask
 
 abbrev pub touched_mask : ℕ → List Item → ℕ
 touched_mask m [] = 0
@@ -54,13 +54,13 @@ abbrev pub no_part : Part
 no_part = part_of []
 
 unfoldable pub with_of : Part → Bool → Item → Part
-with_of p wanted x = if wanted && p.count <? 4 then record { count = p.count + 1; items = set p.items p.count x } else p
+with_of p wanted x = If wanted && p.count <? 4 then record { count = p.count + 1; items = set p.items p.count x } else p
 
 -- those of ys that stand beside an item of xs that passes a test
 abbrev pub beside : (Item → Bool) → List Item → List Item → List Item
 beside ok [] ys = []
 beside ok (x ∷ xs) [] = []
-beside ok (x ∷ xs) (y ∷ ys) = if ok x then y ∷ beside ok xs ys else beside ok xs ys
+beside ok (x ∷ xs) (y ∷ ys) = If ok x then y ∷ beside ok xs ys else beside ok xs ys
 
 abbrev pub is_on : ℕ → ℕ → Item → Bool
 is_on m shard x = shard_number m x.key =? shard
@@ -108,7 +108,7 @@ stored_all reads [] = reads
 stored_all reads (r ∷ rs) = stored_all (set reads r.place r) rs
 
 abbrev pub keep_read : List Item → Bool → Item → List Item
-keep_read reads there r = if there then set reads r.place r else reads
+keep_read reads there r = If there then set reads r.place r else reads
 
 unfoldable pub stored_of : List Item → ℕ → List Item → List Item
 stored_of reads count rs = stored_all reads (take count rs)

@@ -2,7 +2,7 @@
 -- Assumes nothing.
 use Rattle.std.specs.Prelude.{◌≡◌, Bool, true, false, not, ◌&&◌, List, [], ◌∷◌, ℕ, zero, suc, ◌<◌, T, length, get_or}
 use Rattle.std.proofs.Math.Option.{Option, none, some}
-use Rattle.rules.specs.Lists.{if◌then◌else◌, at, has}
+use Rattle.rules.specs.Lists.{If◌then◌else◌, at, has}
 use Rattle.rules.specs.Transactions.{Operation, get, put, Write, key_of, shard_of, placed, keep, gather}
 use Rattle.rules.specs.Board as B
 use Rattle.rules.specs.Board.{PRE, EXE}
@@ -19,7 +19,7 @@ use Rattle.entry.specs.Model.{in_mask}
 -- so many shards, the first given, as far as they are in the mask
 abbrev pub set_from : ℕ → ℕ → ℕ → List ℕ
 set_from zero shard mask = []
-set_from (suc k) shard mask = if in_mask mask shard then shard ∷ set_from k (suc shard) mask else set_from k (suc shard) mask
+set_from (suc k) shard mask = If in_mask mask shard then shard ∷ set_from k (suc shard) mask else set_from k (suc shard) mask
 
 -- the shards of a mask, rising
 unfoldable pub set_of : ℕ → List ℕ
@@ -45,7 +45,7 @@ unfoldable pub view_entry : ℕ → Entry → B.Entry
 view_entry m e =
     record {
       write = write_of e;
-      status = if e.exe then EXE else PRE;
+      status = If e.exe then EXE else PRE;
       reads = gather (keep (heard_key m (set_of e.remaining)) (placed 0 (operations_of e.count e.items))) (saw e.reads);
       remaining = set_of e.remaining;
     }

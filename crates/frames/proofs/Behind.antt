@@ -9,7 +9,7 @@ use native.Mathlib.Omega.{arith}
 use lib.ListN.{length, take, drop, length-append, length-drop, drop_of_length-le}
 use lib.Seq.{take_at, drop_at, drop-drop}
 use lib.Dec.{leb, leb→le}
-use Rattle.rules.specs.Lists.{if◌then◌else◌}
+use Rattle.rules.specs.Lists.{If◌then◌else◌}
 use borrow.Author.Tests.{le-leb, lt-leb}
 use Rattle.rules.proofs.Lists.{by, and_r}
 use Rattle.frames.specs.declared.Frame.{Frame}
@@ -20,14 +20,14 @@ use Rattle.frames.proofs.Puts.{writes, lays}
 -- ---- What the code leaves
 
 pub refused : (f : Frame) (at : ℕ) (l : List ℕ) → length l < at → (at ≡ end_of f at (length l)) × (l ≡ laid_behind f at l)
-unfolding end_of laid_behind if◌then◌else◌
+unfolding end_of laid_behind If◌then◌else◌
 refused f at l h = (simp (lt-leb at (length l) h), simp (lt-leb at (length l) h))
 
 -- m is what the part from `at` on became, n what was written there
 pub laid : (f : Frame) (at n : ℕ) (l m : List ℕ) → at ≤ length l → n ≡ written_of f (length (take (length l - at) (drop at l)))
     → m ≡ laid_of f (take (length l - at) (drop at l))
     → (at + n ≡ end_of f at (length l)) × (take at l ++ (m ++ drop (length l - at) (drop at l)) ≡ laid_behind f at l)
-unfolding end_of laid_behind if◌then◌else◌
+unfolding end_of laid_behind If◌then◌else◌
 laid f at n l m h en em =
     let z : drop (length l - at) (drop at l) ≡ [] = drop_of_length-le (drop at l) (le_of_eq (length-drop at l)) in (
       simp (le-leb at (length l) h, en, part l at, length-drop),
@@ -50,7 +50,7 @@ end_small f at n l h e =
 
 -- p stands in front, and a frame is written behind it
 pub ends_behind : (f : Frame) (p l : List ℕ) → f.count ≤ 4 → length (p ++ frame_bytes f) ≤ length l → end_of f (length p) (length l) ≡ length (p ++ frame_bytes f)
-unfolding end_of if◌then◌else◌
+unfolding end_of If◌then◌else◌
 ends_behind f p l k h =
     let e = length-append p (frame_bytes f) in
     let a : length p ≤ length l = omega arith in
@@ -59,7 +59,7 @@ ends_behind f p l k h =
 
 pub lays_behind : (f : Frame) (p l : List ℕ) → f.count ≤ 4 → length (p ++ frame_bytes f) ≤ length l
     → laid_behind f (length p) (p ++ drop (length p) l) ≡ (p ++ frame_bytes f) ++ drop (length (p ++ frame_bytes f)) l
-unfolding laid_behind if◌then◌else◌
+unfolding laid_behind If◌then◌else◌
 lays_behind f p l k h =
     let e = length-append p (frame_bytes f) in
     let d : List ℕ = drop (length p) l in

@@ -10,7 +10,7 @@ use lib.ListN.{length, get_or, take, drop, length-drop}
 use lib.Seq.{take_all}
 use lib.Dec.{leb, ltb, eqb, leb-zero}
 use borrow.Author.Tests.{lt-leb, ne_eqb}
-use Rattle.rules.specs.Lists.{if◌then◌else◌}
+use Rattle.rules.specs.Lists.{If◌then◌else◌}
 use Rattle.rules.specs.Frames.{two_at}
 use Rattle.frames.specs.declared.Item.{Item}
 use Rattle.frames.specs.declared.Head.{Head}
@@ -27,7 +27,7 @@ pub kind : (s body : List ℕ) (k j : ℕ) → j ≡ two_at s 2 → j ≡ k → 
 kind s body k j e h = ap (λ (i : ℕ). head_of i body) (sym e ∙ h)
 
 pub other : (body : List ℕ) (k : ℕ) → (k ≡ 1 → ⊥) → (k ≡ 2 → ⊥) → (k ≡ 3 → ⊥) → (k ≡ 4 → ⊥) → (k ≡ 5 → ⊥) → (k ≡ 6 → ⊥) → head_of k body ≡ Bad
-unfolding head_of if◌then◌else◌
+unfolding head_of If◌then◌else◌
 other body k a b c d e f = simp (ne_eqb k 1 a, ne_eqb k 2 b, ne_eqb k 3 c, ne_eqb k 4 d, ne_eqb k 5 e, ne_eqb k 6 f)
 
 -- the candidate from its parts
@@ -37,7 +37,7 @@ candidate_of_lem s body h f b e l = l ∙ rw (e, b)
 
 -- the test of `accept` as the code computes it, and what it decides
 pub accepts : (f : Frame) (s : List ℕ) (b t : Bool) (field len : ℕ) → b ≡ valid f → field ≡ two_at s 0 → len ≡ len_of f.head f.count
-    → b && eqb field len && leb (len + 2) (length s) ≡ t → accept f s ≡ (if t then record { frame = f; end = len + 2 } else no_front)
+    → b && eqb field len && leb (len + 2) (length s) ≡ t → accept f s ≡ (If t then record { frame = f; end = len + 2 } else no_front)
 unfolding accept
 accepts f s b t field len e₁ e₂ e₃ h = simp (← e₁, ← e₂, ← e₃, h)
 
@@ -47,7 +47,7 @@ and-false false = refl
 
 -- with no room for a header nothing is read
 pub short : (f : Frame) (s : List ℕ) → length s < body_at → accept f s ≡ no_front
-unfolding accept if◌then◌else◌
+unfolding accept If◌then◌else◌
 short f s h = simp (lt-leb (len_of f.head f.count + 2) (length s) (omega arith), and-false)
 
 -- ---- The four items, tested as the code tests them

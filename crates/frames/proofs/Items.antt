@@ -8,7 +8,7 @@ use Prim.Native.Nat.{ℕ, zero, suc, ◌+◌, ◌<◌, ◌≤◌}
 use native.Mathlib.Omega.{arith}
 use lib.ListN.{length, take}
 use lib.Dec.{T, leb, eqb, leb→le, le→leb, eqb→eq}
-use Rattle.rules.specs.Lists.{if◌then◌else◌, within, every}
+use Rattle.rules.specs.Lists.{If◌then◌else◌, within, every}
 use Rattle.rules.specs.Transactions as R
 use Rattle.rules.specs.Transactions.{get, put}
 use Rattle.rules.specs.Frames.{four, operation_bytes, placed_bytes, seen_bytes, read_bytes, back_to_back, ok_operation, ok_seen, ok_value, rising}
@@ -155,7 +155,7 @@ pub key_of_lem : (x : Item) → R.key_of (as_operation x) ≡ x.key
 key_of_lem x = by (λ (o : R.Operation). R.key_of o ≡ x.key) (eqb x.code 0) (λ t. refl) (λ t. refl)
 
 pub operation_back : (p : ℕ) (o : R.Operation) → as_operation (operation_item p o) ≡ o
-unfolding if◌then◌else◌
+unfolding If◌then◌else◌
 operation_back p (get key) = refl
 operation_back p (put key value) = refl
 
@@ -225,7 +225,7 @@ read_place x = go x.value
     go (some value) = refl
 
 pub read_back : (x : R.Read) → as_read (read_item x) ≡ x
-unfolding if◌then◌else◌
+unfolding If◌then◌else◌
 read_back x = go x.value
   where
     go : (v : Option ℕ) → as_read (seen_item x.place v) ≡ record { place = x.place; value = v }

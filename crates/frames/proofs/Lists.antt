@@ -9,7 +9,7 @@ use native.Mathlib.Numerals.{add-one, towards_suc}
 use native.Mathlib.Omega.{arith}
 use lib.ListN.{length, get_or, take, drop, length-take, drop_of_length-le}
 use lib.Seq.{drop-cons, get_or-append-add, get_or-drop, get_or-take}
-use Rattle.rules.specs.Lists.{if◌then◌else◌}
+use Rattle.rules.specs.Lists.{If◌then◌else◌}
 use borrow.Author.Tests.{lt-ltb, le-ltb}
 use Rattle.rules.specs.Frames.{two, four, two_at, four_at}
 use Rattle.rules.proofs.Frames.{four_back}
@@ -96,7 +96,7 @@ module _ (s : List ℕ) (by : (i : ℕ) → get_or s i 0 < 256) where
 
   -- the first n items that were read are written as the bytes they were read from
   pub items_bytes_lem : (shape : Shape) (n k i count at : ℕ) → count ≡ i + n → n ≤ k → items_bytes shape (take n (slots shape i k count s at)) ≡ gets 0 (width shape * n) at s
-  unfolding if◌then◌else◌
+  unfolding If◌then◌else◌
   items_bytes_lem shape zero k i count at e h = simp mul-zero
   items_bytes_lem shape (suc n) zero i count at e h = absurd (not-suc-le-zero h)
   items_bytes_lem shape (suc n) (suc k) i count at e h =
@@ -116,12 +116,12 @@ module _ (s : List ℕ) (by : (i : ℕ) → get_or s i 0 < 256) where
   item_canon Read i at = (refl, (omega arith, four_small (at + 2)))
 
   empty_canon : (shape : Shape) (k i count at : ℕ) → count ≤ i → CanonFrom shape i zero (slots shape i k count s at)
-  unfolding if◌then◌else◌
+  unfolding If◌then◌else◌
   empty_canon shape zero i count at h = tt
   empty_canon shape (suc k) i count at h = (simp (le-ltb i count h), empty_canon shape k (suc i) count (at + width shape) (omega arith))
 
   pub slots_canon : (shape : Shape) (k n i count at : ℕ) → count ≡ i + n → CanonFrom shape i n (slots shape i k count s at)
-  unfolding if◌then◌else◌
+  unfolding If◌then◌else◌
   slots_canon shape zero n i count at e = tt
   slots_canon shape (suc k) zero i count at e = empty_canon shape (suc k) i count at (omega arith)
   slots_canon shape (suc k) (suc n) i count at e =
@@ -149,14 +149,14 @@ item_back Placed i x s (k, v) = λ j. record { place = x.place; code = x.code; k
 item_back Read i x s (p, (k, v)) = λ j. record { place = x.place; code = x.code; key = sym p j; value = four_back x.value v j }
 
 slots_none : (shape : Shape) (i count at : ℕ) (s : List ℕ) (xs : List Item) → count ≤ i → CanonFrom shape i zero xs → slots shape i (length xs) count s at ≡ xs
-unfolding if◌then◌else◌
+unfolding If◌then◌else◌
 slots_none shape i count at s [] h c = refl
 slots_none shape i count at s (x ∷ xs) h (e, c) =
     rw (le-ltb i count h, e) (ap (λ (l : List Item). no_item ∷ l) (slots_none shape (suc i) count (at + width shape) s xs (omega arith) c))
 
 pub items_back : (shape : Shape) (i n count : ℕ) (xs : List Item) (t : List ℕ) → count ≡ i + n → CanonFrom shape i n xs
     → slots shape i (length xs) count (items_bytes shape (take n xs) ++ t) 0 ≡ xs
-unfolding if◌then◌else◌
+unfolding If◌then◌else◌
 items_back shape i n count [] t e c = refl
 items_back shape i zero count (x ∷ xs) t e c = slots_none shape i count 0 ([] ++ t) (x ∷ xs) (omega arith) c
 items_back shape i (suc n) count (x ∷ xs) t e (d, c) =

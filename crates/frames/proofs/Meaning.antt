@@ -8,7 +8,7 @@ use Prim.Native.Nat.{ℕ, zero, suc, ◌+◌, ◌≤◌}
 use native.Mathlib.Omega.{arith}
 use lib.ListN.{length, take}
 use lib.Dec.{T, leb, leb→le, le→leb}
-use Rattle.rules.specs.Lists.{if◌then◌else◌, within, every}
+use Rattle.rules.specs.Lists.{If◌then◌else◌, within, every}
 use Rattle.rules.specs.Transactions as R
 use Rattle.rules.specs.Frames as F
 use Rattle.rules.specs.Frames.{submit, forward, shard_append, exec_notif, executed, response, two, operation_bytes, placed_bytes, read_bytes, back_to_back, ok_client, ok_number, ok_ind, ok_operation, ok_operations, ok_write, ok_placed, ok_reads, ok_seen, rising, obeys, encode, decode, with_length}
@@ -436,7 +436,7 @@ bytes_take (suc n) (x ∷ s) b (suc i) = bytes_take n s (λ j. b (suc j)) i
 -- the reader of a front means the rules' reading of the bytes up to the end that it gives
 pub front_means : (s : List ℕ) → Bytes s → meaning (read_front s).frame ≡ decode (take (read_front s).end s)
 front_means s b =
-    fronts s b (λ (r : Front). meaning r.frame ≡ decode (take r.end s)) (unfold no_front bad_frame meaning decode F.candidate F.spelled if◌then◌else◌ in refl)
+    fronts s b (λ (r : Front). meaning r.frame ≡ decode (take r.end s)) (unfold no_front bad_frame meaning decode F.candidate F.spelled If◌then◌else◌ in refl)
     (λ r g. ap meaning (sym (frame_back r.frame g.right g.canon) ∙ ap read_frame g.bytes) ∙ reads_mean (take r.end s) (bytes_take r.end s b))
 
 -- frames sent in turn have the rules' bytes, back to back

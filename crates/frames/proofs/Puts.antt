@@ -12,7 +12,7 @@ use lib.Arith.{digits_div, digits_mod}
 use lib.Dec.{ltb, eqb}
 use lib.Seq.{sets, sets-eq, take-nil}
 use borrow.Author.Tests.{lt-ltb, le-ltb, ltb-true, ltb-false, le-leb, lt-leb}
-use Rattle.rules.specs.Lists.{if◌then◌else◌}
+use Rattle.rules.specs.Lists.{If◌then◌else◌}
 use Rattle.rules.specs.Frames.{two, four}
 use Rattle.frames.specs.declared.Item.{Item}
 use Rattle.frames.specs.declared.Shape.{Shape}
@@ -68,7 +68,7 @@ slots_bytes shape i count [] = []
 slots_bytes shape i count (x ∷ xs) = slot_bytes shape i count x ++ slots_bytes shape (suc i) count xs
 
 slots_bytes_lem : (shape : Shape) (i count : ℕ) (xs : List Item) → slots_bytes shape i count xs ≡ items_bytes shape (take (count - i) xs)
-unfolding if◌then◌else◌
+unfolding If◌then◌else◌
 slots_bytes_lem shape i count [] = rw take-nil
 slots_bytes_lem shape i count (x ∷ xs) =
     elim (dec_le count i) [
@@ -133,11 +133,11 @@ length_framed len h count xs k =
 
 -- a frame that is none has no bytes
 pub bad_bytes : (f : Frame) → is_bad f.head ≡ true → frame_bytes f ≡ []
-unfolding frame_bytes if◌then◌else◌
+unfolding frame_bytes If◌then◌else◌
 bad_bytes f e = simp e
 
 pub frame_bytes_lem : (f : Frame) → is_bad f.head ≡ false → frame_bytes f ≡ framed (len_of f.head f.count) f.head f.count f.items
-unfolding frame_bytes if◌then◌else◌
+unfolding frame_bytes If◌then◌else◌
 frame_bytes_lem f e = simp e
 
 pub length_frame : (f : Frame) → is_bad f.head ≡ false → f.count ≤ length f.items → length (frame_bytes f) ≡ len_of f.head f.count + 2
@@ -145,11 +145,11 @@ length_frame f e k = ap length (frame_bytes_lem f e) ∙ length_framed (len_of f
 
 -- the law for callers: with at most four items and with room, the frame's bytes stand at the front and nothing else changes
 pub writes : (f : Frame) (room : ℕ) → f.count ≤ 4 → length (frame_bytes f) ≤ room → written_of f room ≡ length (frame_bytes f)
-unfolding written_of fits if◌then◌else◌
+unfolding written_of fits If◌then◌else◌
 writes f room k h = simp (le-leb f.count 4 k, le-leb (length (frame_bytes f)) room h)
 
 pub lays : (f : Frame) (out : List ℕ) → f.count ≤ 4 → length (frame_bytes f) ≤ length out → laid_of f out ≡ frame_bytes f ++ drop (length (frame_bytes f)) out
-unfolding laid_of fits if◌then◌else◌
+unfolding laid_of fits If◌then◌else◌
 lays f out k h = simp (le-leb f.count 4 k, le-leb (length (frame_bytes f)) (length out) h)
 
 -- what the code leaves where it writes
@@ -167,10 +167,10 @@ wrote f l m k len e shape ek en es b c four r p =
 
 -- what it leaves where it writes nothing
 pub wrote_none : (f : Frame) (l : List ℕ) → frame_bytes f ≡ [] → (0 ≡ written_of f (length l)) × (l ≡ laid_of f l)
-unfolding written_of laid_of if◌then◌else◌
+unfolding written_of laid_of If◌then◌else◌
 wrote_none f l e = (rw e (both (fits f (length l)) 0), rw e (both (fits f (length l)) l))
   where
-    both : {A : Type 0} (t : Bool) (x : A) → x ≡ (if t then x else x)
+    both : {A : Type 0} (t : Bool) (x : A) → x ≡ (If t then x else x)
     both true x = refl
     both false x = refl
 
@@ -205,7 +205,7 @@ room h k count out len e t =
 
 pub wrote_refused : (f : Frame) (l : List ℕ) (k len : ℕ) → length f.items ≡ 4 → k ≡ kind_of f.head → len ≡ len_of f.head f.count
     → refuses k f.count (length l) len ≡ true → (0 ≡ written_of f (length l)) × (l ≡ laid_of f l)
-unfolding written_of laid_of fits if◌then◌else◌
+unfolding written_of laid_of fits If◌then◌else◌
 wrote_refused f l k len four ek en t = go (is_bad f.head) refl
   where
     no : fits f (length l) ≡ false → (0 ≡ written_of f (length l)) × (l ≡ laid_of f l)

@@ -9,7 +9,7 @@ use native.Mathlib.Omega.{arith}
 use lib.ListN.{length, take, drop, length-append}
 use lib.Seq.{take_all, get_or-drop}
 use lib.Dec.{T, leb, eqb, leb→le, le→leb, eqb→eq, eqb_refl}
-use Rattle.rules.specs.Lists.{if◌then◌else◌, within}
+use Rattle.rules.specs.Lists.{If◌then◌else◌, within}
 use Rattle.rules.specs.Frames.{two, byte_at, two_at}
 use Rattle.rules.proofs.Lists.{by, if_yes, and, and_l, and_r}
 use Rattle.rules.proofs.Frames.{two_back}
@@ -115,7 +115,7 @@ module _ (count : ℕ) (xs : List Item) (t : List ℕ) (four : length xs ≡ 4) 
 
   -- the frame's bytes are those of no other
   spelled : (h : Head) → T (ok_head h count) → CanonFrom (shape_of h) 0 count xs → candidate_of (bytes h) ≡ frame h
-  unfolding candidate_of listed head_of if◌then◌else◌ bytes frame
+  unfolding candidate_of listed head_of If◌then◌else◌ bytes frame
   spelled Bad v c = absurd v
   spelled (Submit client number ack) v c =
       let w = window number ack (and_r (leb 1 count && leb client 15) (ok_window number ack) v) in
@@ -262,7 +262,7 @@ pub record Spells (s : List ℕ) (f : Frame) : Type 0 where
 pub reads : (s : List ℕ) → Bytes s → (P : Frame → Type 0) → P bad_frame → ((f : Frame) → Spells s f → P f) → P (read_frame s)
 unfolding read_frame
 reads s b P none some =
-    fronts s b (λ (r : Front). P (if eqb r.end (length s) then r.frame else bad_frame)) (by P _ (λ t. unfold no_front in none) (λ t. none))
+    fronts s b (λ (r : Front). P (If eqb r.end (length s) then r.frame else bad_frame)) (by P _ (λ t. unfold no_front in none) (λ t. none))
     (λ r g.
     by P (eqb r.end (length s))
     (λ t. some r.frame (record { right = g.right; canon = g.canon; bytes = g.bytes ∙ whole r.end (eqb→eq r.end (length s) t) })) (λ t. none))

@@ -9,7 +9,7 @@ use Prim.Native.Nat.{ℕ}
 use lib.Dec.{leb, leb→le}
 use lib.ListN.{length, take, drop, replicate}
 use lib.Seq.{length-take-le, take_at}
-use Rattle.rules.specs.Lists.{if◌then◌else◌}
+use Rattle.rules.specs.Lists.{If◌then◌else◌}
 use Rattle.rules.proofs.Lists.{by}
 use Rattle.frames.specs.declared.Shape.{Shape}
 use Rattle.frames.specs.declared.Shape.TheVariants.{Operation, Placed, Read}
@@ -27,7 +27,7 @@ no_item_bytes Read = refl
 
 -- a value from nowhere
 pub no_item_absent : as_read no_item ≡ record { place = 0; value = none }
-unfolding if◌then◌else◌
+unfolding If◌then◌else◌
 no_item_absent = refl
 
 -- ---- bad_frame

@@ -2,7 +2,7 @@
 -- Numbers and their bytes are the rules' own (two, four, byte_at, two_at, four_at). Assumes nothing.
 use Rattle.std.specs.Prelude.{Bool, true, false, ◌&&◌, ◌||◌, List, [], ◌∷◌, ◌++◌, ℕ, zero, suc, ◌+◌, ◌*◌, ◌-◌, length, take, drop, ◌≡◌}
 use Rattle.std.proofs.lemmas.List.Edits.{sets}
-use Rattle.rules.specs.Lists.{if◌then◌else◌, ◌<?◌, ◌≤?◌, ◌=?◌, within}
+use Rattle.rules.specs.Lists.{If◌then◌else◌, ◌<?◌, ◌≤?◌, ◌=?◌, within}
 use Rattle.rules.specs.Frames.{ok_client, ok_number, ok_ind, two, four, byte_at, two_at, four_at, header_width, back_to_back}
 use Rattle.frames.specs.declared.Item.{Item}
 use Rattle.frames.specs.declared.Shape.{Shape}
@@ -80,7 +80,7 @@ items_bytes shape (x ∷ xs) = item_bytes shape x ++ items_bytes shape xs
 
 -- item i of count, or nothing
 abbrev pub slot_bytes : Shape → ℕ → ℕ → Item → List ℕ
-slot_bytes shape i count x = if i <? count then item_bytes shape x else []
+slot_bytes shape i count x = If i <? count then item_bytes shape x else []
 
 -- "Each list begins with a one-byte count"
 abbrev pub list_bytes : Shape → ℕ → List Item → List ℕ
@@ -99,7 +99,7 @@ abbrev pub framed : ℕ → Head → ℕ → List Item → List ℕ
 framed len head count items = two len ++ (header_bytes (kind_of head) ++ (field_bytes head ++ list_bytes (shape_of head) count items))
 
 unfoldable pub frame_bytes : Frame → List ℕ
-frame_bytes f = if is_bad f.head then [] else framed (len_of f.head f.count) f.head f.count f.items
+frame_bytes f = If is_bad f.head then [] else framed (len_of f.head f.count) f.head f.count f.items
 
 -- ---- The tests of "Sizes" and "Frames"
 
@@ -150,7 +150,7 @@ item_at Read i s at = record { place = byte_at s at; code = byte_at s (at + 1); 
 
 -- slots past the count are zero
 abbrev pub slot_at : Shape → ℕ → ℕ → List ℕ → ℕ → Item
-slot_at shape i count s at = if i <? count then item_at shape i s at else no_item
+slot_at shape i count s at = If i <? count then item_at shape i s at else no_item
 
 -- k slots from the i-th on, the first at `at`
 abbrev pub slots : Shape → ℕ → ℕ → ℕ → List ℕ → ℕ → List Item
@@ -179,12 +179,12 @@ read_response body = Response (byte_at body 0) (two_at body 1)
 -- "The two-byte kind decides the body's layout"
 unfoldable pub head_of : ℕ → List ℕ → Head
 head_of kind body =
-    if kind =? 1 then read_submit body else
-    if kind =? 2 then read_forward body else
-    if kind =? 3 then read_shard_append body else
-    if kind =? 4 then read_exec_notif body else
-    if kind =? 5 then read_executed body else
-    if kind =? 6 then read_response body else
+    If kind =? 1 then read_submit body else
+    If kind =? 2 then read_forward body else
+    If kind =? 3 then read_shard_append body else
+    If kind =? 4 then read_exec_notif body else
+    If kind =? 5 then read_executed body else
+    If kind =? 6 then read_response body else
     Bad
 
 -- fields and the list behind them
@@ -213,7 +213,7 @@ abbrev pub taken : Frame → List ℕ → Bool
 taken f s = valid f && two_at s 0 =? len_of f.head f.count && len_of f.head f.count + 2 ≤? length s
 
 unfoldable pub accept : Frame → List ℕ → Front
-accept f s = if taken f s then record { frame = f; end = len_of f.head f.count + 2 } else no_front
+accept f s = If taken f s then record { frame = f; end = len_of f.head f.count + 2 } else no_front
 
 -- the frame with which some bytes begin, and where it ends
 unfoldable pub read_front : List ℕ → Front
@@ -221,7 +221,7 @@ read_front s = accept (candidate_of s) s
 
 -- "Nothing may follow a frame"
 unfoldable pub read_frame : List ℕ → Frame
-read_frame s = if (read_front s).end =? length s then (read_front s).frame else bad_frame
+read_frame s = If (read_front s).end =? length s then (read_front s).frame else bad_frame
 
 -- ---- A record laid into an out area
 
@@ -236,18 +236,18 @@ fits f room = f.count ≤? 4 && length (frame_bytes f) ≤? room
 
 -- how many bytes are written
 unfoldable pub written_of : Frame → ℕ → ℕ
-written_of f room = if fits f room then length (frame_bytes f) else 0
+written_of f room = If fits f room then length (frame_bytes f) else 0
 
 -- the out area afterwards: the frame's bytes from the first on and all others as they were, or no byte written
 unfoldable pub laid_of : Frame → List ℕ → List ℕ
-laid_of f out = if fits f (length out) then frame_bytes f ++ drop (length (frame_bytes f)) out else out
+laid_of f out = If fits f (length out) then frame_bytes f ++ drop (length (frame_bytes f)) out else out
 
 -- a frame written behind what stands in the first `at` bytes: where its bytes end, and the out area afterwards
 unfoldable pub end_of : Frame → ℕ → ℕ → ℕ
-end_of f at room = if at ≤? room then at + written_of f (room - at) else at
+end_of f at room = If at ≤? room then at + written_of f (room - at) else at
 
 unfoldable pub laid_behind : Frame → ℕ → List ℕ → List ℕ
-laid_behind f at out = if at ≤? length out then take at out ++ laid_of f (drop at out) else out
+laid_behind f at out = If at ≤? length out then take at out ++ laid_of f (drop at out) else out
 
 -- the bytes of frames back to back
 abbrev pub frames_bytes : List Frame → List ℕ

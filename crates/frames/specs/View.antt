@@ -2,7 +2,7 @@
 -- Assumes nothing.
 use Rattle.std.specs.Prelude.{◌≡◌, List, [], ◌∷◌, map, ℕ, zero, suc, ◌<◌, length, take, get_or}
 use Rattle.std.proofs.Math.Option.{Option, none, some}
-use Rattle.rules.specs.Lists.{if◌then◌else◌, ◌=?◌}
+use Rattle.rules.specs.Lists.{If◌then◌else◌, ◌=?◌}
 use Rattle.rules.specs.Answers.{done, breaks_rule}
 use Rattle.rules.specs.Transactions as R
 use Rattle.rules.specs.Transactions.{get, put}
@@ -26,14 +26,14 @@ view_last (suc ind) = some ind
 
 -- "0 get or 1 put"
 abbrev pub as_operation : Item → R.Operation
-as_operation x = if x.code =? 0 then get x.key else put x.key x.value
+as_operation x = If x.code =? 0 then get x.key else put x.key x.value
 
 abbrev pub as_placed : Item → R.Placed
 as_placed x = record { place = x.place; operation = as_operation x }
 
 -- "present 0 or 1"
 abbrev pub as_read : Item → R.Read
-as_read x = record { place = x.place; value = if x.code =? 0 then none else some x.value }
+as_read x = record { place = x.place; value = If x.code =? 0 then none else some x.value }
 
 -- the lists that the first `count` items mean
 abbrev pub operations_of : ℕ → List Item → List R.Operation

@@ -11,7 +11,7 @@ use lib.ListN.{length, get_or, set, take, drop, replicate, length-take, length-d
 use lib.Seq.{drop-cons, take-suc, set_at, get_or-append-add, get_or-drop, get_or-take, length-take-le, append_snoc, take_all}
 use lib.Dec.{eqb}
 use borrow.Author.Tests.{eq-eqb, ne_eqb}
-use Rattle.rules.specs.Lists.{if◌then◌else◌}
+use Rattle.rules.specs.Lists.{If◌then◌else◌}
 use Rattle.rules.proofs.Lists.{by}
 use Rattle.frames.proofs.Lists.{front_cons, front_end}
 use Rattle.entry.specs.Model.{in_mask}
@@ -31,11 +31,11 @@ taken_few q ind count e = omega (arith, up_to_few ind (waiting q), length-take q
 -- the loop has passed i numbers
 module _ (ind n : ℕ) (l : List ℕ) (i : ℕ) where
   pub up_to_here : i < n → i < length l → get_or l i 0 ≡ ind → up_to ind (drop i (take n l)) ≡ 1
-  unfolding up_to if◌then◌else◌
+  unfolding up_to If◌then◌else◌
   up_to_here h k e = rw (front_cons n l i 0 h k, eq-eqb _ _ e)
 
   pub up_to_past : i < n → i < length l → (get_or l i 0 ≡ ind → ⊥) → up_to ind (drop i (take n l)) ≡ suc (up_to ind (drop (i + 1) (take n l)))
-  unfolding up_to if◌then◌else◌
+  unfolding up_to If◌then◌else◌
   up_to_past h k e = rw (front_cons n l i 0 h k, ne_eqb _ _ e)
 
   pub up_to_end : n ≤ i → up_to ind (drop i (take n l)) ≡ 0
@@ -100,7 +100,7 @@ module _ (change : Queue → Queue) (mask : ℕ) where
   change_length shard (q ∷ qs) = ap suc (change_length (suc shard) qs)
 
   pub change_at : (shard : ℕ) (qs : List Queue) (i : ℕ) (d : Queue) → i < length qs
-      → get_or (change_from change mask shard qs) i d ≡ (if in_mask mask (shard + i) then change (get_or qs i d) else get_or qs i d)
+      → get_or (change_from change mask shard qs) i d ≡ (If in_mask mask (shard + i) then change (get_or qs i d) else get_or qs i d)
   change_at shard [] i d h = absurd (omega arith)
   change_at shard (q ∷ qs) zero d h = rw add-zero
   change_at shard (q ∷ qs) (suc i) d h = let e : shard + suc i ≡ suc shard + i = omega arith in rw e (change_at (suc shard) qs i d (omega arith))
@@ -117,7 +117,7 @@ module _ (change : Queue → Queue) (mask : ℕ) where
     here : get_or cur (shard - 1) d ≡ get_or qs (shard - 1) d
     here = ap (λ (l : List Queue). get_or l (shard - 1) d) e ∙ over_here all qs (shard - 1) d (omega (arith, n))
 
-    there : get_or all (shard - 1) d ≡ (if inside then change (get_or cur (shard - 1) d) else get_or cur (shard - 1) d)
+    there : get_or all (shard - 1) d ≡ (If inside then change (get_or cur (shard - 1) d) else get_or cur (shard - 1) d)
     there = let f : 1 + (shard - 1) ≡ shard = omega arith in change_at 1 qs (shard - 1) d h ∙ rw (f, ← t, here)
 
     next : shard - 1 + 1 ≡ shard + 1 - 1
@@ -125,12 +125,12 @@ module _ (change : Queue → Queue) (mask : ℕ) where
 
     pub change_yes : (v : Queue) → inside ≡ true → v ≡ change (get_or cur (shard - 1) d) → set cur (shard - 1) v ≡ take (shard + 1 - 1) all ++ drop (shard + 1 - 1) qs
     change_yes v y w =
-        let f : v ≡ get_or all (shard - 1) d = w ∙ sym (there ∙ rw y (unfold if◌then◌else◌ in refl)) in
+        let f : v ≡ get_or all (shard - 1) d = w ∙ sym (there ∙ rw y (unfold If◌then◌else◌ in refl)) in
         rw (← next, f, e) (over_step all qs (shard - 1) d (omega (arith, n)) h)
 
     pub change_no : inside ≡ false → cur ≡ take (shard + 1 - 1) all ++ drop (shard + 1 - 1) qs
     change_no y =
-        let f : get_or all (shard - 1) d ≡ get_or qs (shard - 1) d = there ∙ (rw y (unfold if◌then◌else◌ in refl) ∙ here) in
+        let f : get_or all (shard - 1) d ≡ get_or qs (shard - 1) d = there ∙ (rw y (unfold If◌then◌else◌ in refl) ∙ here) in
         rw (← next) (e ∙ over_kept all qs (shard - 1) d (omega (arith, n)) h f)
 
   pub change_all : (qs : List Queue) (n : ℕ) → length qs ≤ n → take n (change_from change mask 1 qs) ++ drop n qs ≡ change_from change mask 1 qs

@@ -11,7 +11,7 @@ use lib.Dec.{T, leb, ltb, eqb, leb→le, le→leb, ltb→lt, lt→ltb}
 use lib.ListN.{length, get_or, set, take, drop, replicate, length-append, length-set, length-replicate, length-drop, length-take}
 use lib.Seq.{take-suc-set, take-append_seam}
 use mir.Facts.{no_eqb}
-use Rattle.rules.specs.Lists.{if◌then◌else◌, within, below, snoc, has}
+use Rattle.rules.specs.Lists.{If◌then◌else◌, within, below, snoc, has}
 use Rattle.rules.specs.Queue as Q
 use Rattle.rules.specs.Queue.{empty_queue, enqueue, take_from, take_up_to}
 use Rattle.rules.specs.Board.{on_queues}
@@ -48,7 +48,7 @@ last_in xs zero last = last
 last_in xs (suc k) last = some (get_or xs k 0)
 
 take_from_lem : (xs : List ℕ) (last : Option ℕ) (ind : ℕ) → take_from xs last ind ≡ record { waiting = drop (up_to ind xs) xs; last_taken = last_in xs (up_to ind xs) last }
-unfolding up_to if◌then◌else◌
+unfolding up_to If◌then◌else◌
 take_from_lem [] last ind = refl
 take_from_lem (x ∷ xs) last ind = go (eqb x ind) (take_from_lem xs (some x) ind)
   where
@@ -57,8 +57,8 @@ take_from_lem (x ∷ xs) last ind = go (eqb x ind) (take_from_lem xs (some x) in
     shift (suc k) = refl
 
     go : (t : Bool) → take_from xs (some x) ind ≡ record { waiting = drop (up_to ind xs) xs; last_taken = last_in xs (up_to ind xs) (some x) }
-        → (if t then record { waiting = xs; last_taken = some x } else take_from xs (some x) ind)
-        ≡ record { waiting = drop (if t then 1 else suc (up_to ind xs)) (x ∷ xs); last_taken = last_in (x ∷ xs) (if t then 1 else suc (up_to ind xs)) last }
+        → (If t then record { waiting = xs; last_taken = some x } else take_from xs (some x) ind)
+        ≡ record { waiting = drop (If t then 1 else suc (up_to ind xs)) (x ∷ xs); last_taken = last_in (x ∷ xs) (If t then 1 else suc (up_to ind xs)) last }
     go true e = refl
     go false e = e ∙ (λ i. record { waiting = drop (up_to ind xs) xs; last_taken = shift (up_to ind xs) i })
 
@@ -79,7 +79,7 @@ waiting_length q n h = let e = length-take q.len q.numbers in omega arith
 
 last_view : (q : Queue) (count : ℕ) → count ≤ q.len → view_last (last_of q count) ≡ last_in (waiting q) count (view_last q.taken)
 unfolding last_of
-last_view q zero h = unfold if◌then◌else◌ in refl
+last_view q zero h = unfold If◌then◌else◌ in refl
 last_view q (suc k) h =
     let one : suc k - 1 ≡ k = omega arith in
     let e : get_or q.numbers (suc k - 1) 0 + 1 ≡ suc (get_or (waiting q) k 0) = rw (one, get_d_take q.len k q.numbers (omega arith)) (add-one (get_or q.numbers k 0)) in
@@ -105,9 +105,9 @@ take_view q ind n h =
     rw (T_true (leb q.len 256) (le→leb q.len 256 h)) (go (leb q.taken ind) (below (view_last q.taken) ind) (sym (below_view q.taken ind)) w)
   where
     go : (a b : Bool) → a ≡ b → view_queue (without q (up_to ind (waiting q))) ≡ take_from (waiting q) (view_last q.taken) ind
-        → view_queue (if a then without q (up_to ind (waiting q)) else q) ≡ (if b then take_from (waiting q) (view_last q.taken) ind else view_queue q)
-    go true b e w = rw (← e) (unfold if◌then◌else◌ in w)
-    go false b e w = rw (← e) (unfold if◌then◌else◌ in refl)
+        → view_queue (If a then without q (up_to ind (waiting q)) else q) ≡ (If b then take_from (waiting q) (view_last q.taken) ind else view_queue q)
+    go true b e w = rw (← e) (unfold If◌then◌else◌ in w)
+    go false b e w = rw (← e) (unfold If◌then◌else◌ in refl)
 
 pub take_held : (q : Queue) (ind most : ℕ) → most ≤ 256 → QueueHeld most q → QueueHeld most (taken_of q ind)
 unfolding taken_of without left_of
@@ -141,7 +141,7 @@ module _ (change : Queue → Queue) (means : Q.Queue → Q.Queue) (mask : ℕ) (
 
       inside : (j : ℕ) → T (within 1 8 j) → (t : Bool) → in_mask mask j ≡ t
           → view_queue (get_or (change_from change mask 1 qs) (j - 1) blank_queue)
-          ≡ (if t then means (view_queue (get_or qs (j - 1) blank_queue)) else view_queue (get_or qs (j - 1) blank_queue))
+          ≡ (If t then means (view_queue (get_or qs (j - 1) blank_queue)) else view_queue (get_or qs (j - 1) blank_queue))
       inside j w t e =
           let lo = leb→le 1 j (and_l (leb 1 j) (leb j 8) w) in
           let hi = leb→le j 8 (and_r (leb 1 j) (leb j 8) w) in
@@ -151,30 +151,30 @@ module _ (change : Queue → Queue) (means : Q.Queue → Q.Queue) (mask : ℕ) (
           rw c (rw (s, e) (go t v))
         where
           go : (t : Bool) → view_queue (change (get_or qs (j - 1) blank_queue)) ≡ means (view_queue (get_or qs (j - 1) blank_queue))
-              → view_queue (if t then change (get_or qs (j - 1) blank_queue) else get_or qs (j - 1) blank_queue)
-              ≡ (if t then means (view_queue (get_or qs (j - 1) blank_queue)) else view_queue (get_or qs (j - 1) blank_queue))
-          go true v = unfold if◌then◌else◌ in v
-          go false v = unfold if◌then◌else◌ in refl
+              → view_queue (If t then change (get_or qs (j - 1) blank_queue) else get_or qs (j - 1) blank_queue)
+              ≡ (If t then means (view_queue (get_or qs (j - 1) blank_queue)) else view_queue (get_or qs (j - 1) blank_queue))
+          go true v = unfold If◌then◌else◌ in v
+          go false v = unfold If◌then◌else◌ in refl
 
-      each : (j : ℕ) → (if within 1 8 j then view_queue (get_or (change_from change mask 1 qs) (j - 1) blank_queue) else empty_queue)
-          ≡ (if has j (set_of mask) then means (if within 1 8 j then view_queue (get_or qs (j - 1) blank_queue) else empty_queue)
-          else (if within 1 8 j then view_queue (get_or qs (j - 1) blank_queue) else empty_queue))
+      each : (j : ℕ) → (If within 1 8 j then view_queue (get_or (change_from change mask 1 qs) (j - 1) blank_queue) else empty_queue)
+          ≡ (If has j (set_of mask) then means (If within 1 8 j then view_queue (get_or qs (j - 1) blank_queue) else empty_queue)
+          else (If within 1 8 j then view_queue (get_or qs (j - 1) blank_queue) else empty_queue))
       each j = rw (in_set mask j) (go (within 1 8 j) refl)
         where
-          go : (w : Bool) → within 1 8 j ≡ w → (if w then view_queue (get_or (change_from change mask 1 qs) (j - 1) blank_queue) else empty_queue)
-              ≡ (if in_mask mask j then means (if w then view_queue (get_or qs (j - 1) blank_queue) else empty_queue)
-              else (if w then view_queue (get_or qs (j - 1) blank_queue) else empty_queue))
-          go true e = unfold if◌then◌else◌ in (inside j (rw e tt) (in_mask mask j) refl)
-          go false e = rw (outside j (rw e tt)) (unfold if◌then◌else◌ in refl)
+          go : (w : Bool) → within 1 8 j ≡ w → (If w then view_queue (get_or (change_from change mask 1 qs) (j - 1) blank_queue) else empty_queue)
+              ≡ (If in_mask mask j then means (If w then view_queue (get_or qs (j - 1) blank_queue) else empty_queue)
+              else (If w then view_queue (get_or qs (j - 1) blank_queue) else empty_queue))
+          go true e = unfold If◌then◌else◌ in (inside j (rw e tt) (in_mask mask j) refl)
+          go false e = rw (outside j (rw e tt)) (unfold If◌then◌else◌ in refl)
 
 pub pushed_view : (qs : List Queue) (mask ind most : ℕ) → QueuesHeld most qs → most < 256 → view_queues (changed_all qs true mask ind) ≡ on_queues (set_of mask) (enqueue ind) (view_queues qs)
-unfolding changed_all if◌then◌else◌
+unfolding changed_all If◌then◌else◌
 pushed_view qs mask ind most h m =
     changed_view (λ q. pushed_of q ind) (enqueue ind) mask qs h.eight
     (λ i l. let k = h.each i l in push_view (get_or qs i blank_queue) ind k.slots (let f = k.few in omega arith))
 
 pub taken_view : (qs : List Queue) (mask ind most : ℕ) → QueuesHeld most qs → most ≤ 256 → view_queues (changed_all qs false mask ind) ≡ on_queues (set_of mask) (take_up_to ind) (view_queues qs)
-unfolding changed_all if◌then◌else◌
+unfolding changed_all If◌then◌else◌
 taken_view qs mask ind most h m =
     changed_view (λ q. taken_of q ind) (take_up_to ind) mask qs h.eight
     (λ i l. let k = h.each i l in take_view (get_or qs i blank_queue) ind k.slots (let f = k.few in omega arith))
@@ -192,9 +192,9 @@ change_held change mask most more qs h m f =
     }
 
 pub pushed_held : (qs : List Queue) (mask ind most : ℕ) → QueuesHeld most qs → QueuesHeld (suc most) (changed_all qs true mask ind)
-unfolding changed_all if◌then◌else◌
+unfolding changed_all If◌then◌else◌
 pushed_held qs mask ind most h = change_held (λ q. pushed_of q ind) mask most (suc most) qs h (omega arith) (λ q k. push_held q ind most k)
 
 pub taken_held : (qs : List Queue) (mask ind most : ℕ) → most ≤ 256 → QueuesHeld most qs → QueuesHeld most (changed_all qs false mask ind)
-unfolding changed_all if◌then◌else◌
+unfolding changed_all If◌then◌else◌
 taken_held qs mask ind most m h = change_held (λ q. taken_of q ind) mask most most qs h (omega arith) (λ q k. take_held q ind most m k)

@@ -9,7 +9,7 @@ use native.Mathlib.Omega.{arith}
 use lib.Dec.{ltb}
 use lib.ListN.{get_or, get_or-replicate}
 use borrow.Author.Tests.{le-ltb}
-use Rattle.rules.specs.Lists.{if◌then◌else◌}
+use Rattle.rules.specs.Lists.{If◌then◌else◌}
 use Rattle.rules.specs.Queue.{empty_queue}
 use Rattle.rules.proofs.Lists.{by}
 use Rattle.entry.specs.Model.{in_mask}
@@ -37,14 +37,14 @@ push_keeps_last q ind = by (λ (p : Queue). p.taken ≡ q.taken) (ltb q.len 256)
 
 -- a 257th number
 pub push_full : (q : Queue) (ind : ℕ) → 256 ≤ q.len → pushed_of q ind ≡ q
-unfolding pushed_of if◌then◌else◌
+unfolding pushed_of If◌then◌else◌
 push_full q ind h = rw (le-ltb q.len 256 h)
 
 -- ---- changed_all: the queue of a shard outside the set changed
 
 outside : (change : Queue → Queue) (mask shard : ℕ) (qs : List Queue) (i : ℕ) (z : Queue) → in_mask mask (shard + i) ≡ false
     → get_or (change_from change mask shard qs) i z ≡ get_or qs i z
-unfolding if◌then◌else◌
+unfolding If◌then◌else◌
 outside change mask shard [] i z h = refl
 outside change mask shard (q ∷ qs) zero z h =
     let e : shard + 0 ≡ shard = omega arith in

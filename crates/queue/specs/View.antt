@@ -1,7 +1,7 @@
 -- What a queue's record means in the rules' words, and what holds of every queue that a board keeps.
 -- Assumes nothing.
 use Rattle.std.specs.Prelude.{◌≡◌, List, [], ◌∷◌, ℕ, ◌-◌, ◌≤◌, ◌<◌, length, get_or}
-use Rattle.rules.specs.Lists.{if◌then◌else◌, within}
+use Rattle.rules.specs.Lists.{If◌then◌else◌, within}
 use Rattle.rules.specs.Queue as Q
 use Rattle.rules.specs.Queue.{empty_queue}
 use Rattle.frames.specs.View.{view_last}
@@ -17,7 +17,7 @@ blank_queue = record { numbers = []; len = 0; taken = 0 }
 
 -- the queue of each shard; there is no shard 0, nor one above 8
 unfoldable pub view_queues : List Queue → ℕ → Q.Queue
-view_queues qs j = if within 1 8 j then view_queue (get_or qs (j - 1) blank_queue) else empty_queue
+view_queues qs j = If within 1 8 j then view_queue (get_or qs (j - 1) blank_queue) else empty_queue
 
 -- so many numbers at most
 pub record QueueHeld (most : ℕ) (q : Queue) : Type 0 where

@@ -9,7 +9,7 @@ use native.Mathlib.Numerals.{add-one}
 use lib.ListN.{length, take, drop, get_or, set, length-drop}
 use lib.Seq.{length-take-le, take-suc, drop-cons, get_or-drop, get_or-append-add, set_at, append_snoc}
 use borrow.Author.Tests.{le-leb, lt-leb}
-use Rattle.rules.specs.Lists.{if◌then◌else◌}
+use Rattle.rules.specs.Lists.{If◌then◌else◌}
 use Rattle.records.specs.Front.{part_length, front_of}
 
 -- the first i bytes of the part at the front
@@ -44,14 +44,14 @@ module _ (from i : ℕ) (s : List ℕ) (inside : from + i < length s) where
 module _ (from end : ℕ) (s : List ℕ) where
   -- all of the part
   pub at_front : from ≤ end → end ≤ length s → (end - from ≡ part_length from end (length s)) × (moved from (end - from) s ≡ front_of from end s)
-  unfolding part_length front_of if◌then◌else◌
+  unfolding part_length front_of If◌then◌else◌
   at_front h g = rw (le-leb from end h, le-leb end (length s) g) (refl, refl)
 
   -- no such part
   pub backwards : end < from → (0 ≡ part_length from end (length s)) × (s ≡ front_of from end s)
-  unfolding part_length front_of if◌then◌else◌
+  unfolding part_length front_of If◌then◌else◌
   backwards h = rw (lt-leb from end h) (refl, refl)
 
   pub too_long : from ≤ end → length s < end → (0 ≡ part_length from end (length s)) × (s ≡ front_of from end s)
-  unfolding part_length front_of if◌then◌else◌
+  unfolding part_length front_of If◌then◌else◌
   too_long h g = rw (le-leb from end h, lt-leb end (length s) g) (refl, refl)

@@ -25,6 +25,7 @@ pub enum Next {
     Cut,
 }
 
+#[tactic(auto, using(crate::proofs::Records::next_laws))]
 pub fn record_at(s: &[u8]) -> Next
     ensures { result ≡ next_of s.now }
 {
@@ -53,6 +54,7 @@ pub enum Receiver {
 }
 
 // "1..8 boards, 17..24 shards 1..8". A board above n and a shard above m are nobody.
+#[tactic(auto, using(crate::proofs::Records::names_laws))]
 pub fn named(n: u8, m: u8, address: u8) -> Receiver
     ensures { result ≡ receiver_of n m address }
 {

@@ -3,12 +3,11 @@
 -- Assumes nothing.
 use Rattle.std.specs.Prelude.{Bool, true, false, not, ◌&&◌, List, [], ◌∷◌, ℕ, ◌+◌, length}
 use Rattle.std.proofs.Math.Option.{Option, none, some}
-use Rattle.rules.specs.Lists.{if◌then◌else◌, ◌<?◌, ◌≤?◌, ◌=?◌, at, below, has}
+use Rattle.rules.specs.Lists.{If◌then◌else◌, ◌<?◌, ◌≤?◌, ◌=?◌, at, below, has}
 use Rattle.rules.specs.Answers.{done, breaks_rule, not_for_me, below_floor, too_early, log_full, not_in_log, too_late, does_not_fit, window_full, numbers_used_up, not_usable}
 use Rattle.rules.specs.Transactions.{Operation, Write, placed, on_shard, same_write}
 use Rattle.rules.specs.Frames.{Frame, submit, forward, shard_append, exec_notif, executed, response, ok_operations, decode}
 use Rattle.rules.specs.Outcomes.{unusable}
-use Rattle.rules.specs.Board as B
 use Rattle.rules.specs.Board.{Entry, Board, is_exe, log_size, writes, next_number, find, fits}
 use Rattle.rules.specs.Shard.{Shard, all_mine}
 use Rattle.rules.specs.Session.{Session, Asked, all_meant, smallest, window_size, operations_of}
@@ -23,7 +22,7 @@ number when applies = record { number = number; applies = applies }
 
 abbrev pub first : List Cause → ℕ
 first [] = done
-first (c ∷ cs) = if c.applies then c.number else first cs
+first (c ∷ cs) = If c.applies then c.number else first cs
 
 -- there is something, and it passes a test
 abbrev pub such : {A : Type 0} → (A → Bool) → Option A → Bool

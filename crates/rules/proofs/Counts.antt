@@ -8,7 +8,7 @@ use Prim.Native.Nat.{ℕ, zero, suc, ◌+◌, ◌≤◌}
 use native.Mathlib.Omega.{arith}
 use lib.Dec.{T}
 use lib.ListN.{length, length-map}
-use Rattle.rules.specs.Lists.{if◌then◌else◌, at, below}
+use Rattle.rules.specs.Lists.{If◌then◌else◌, at, below}
 use Rattle.rules.specs.Transactions.{Write, touches}
 use Rattle.rules.specs.Board.{Entry, Board, writes, one_more, touching}
 use Rattle.rules.specs.Kept.{numbers, above, up_to, Kept, SizesKept}
@@ -29,11 +29,11 @@ touching_one m j ws q w a t =
     ap (λ o. one_more m j o (touching m j ws q)) a ∙ if_yes (touches m j w.operations) (suc (touching m j ws q)) (touching m j ws q) t
 
 one_more_add : (m j : ℕ) (o : Option Write) (x c : ℕ) → one_more m j o (x + c) ≡ x + one_more m j o c
-unfolding if◌then◌else◌
+unfolding If◌then◌else◌
 one_more_add m j none x c = refl
 one_more_add m j (some w) x c = go (touches m j w.operations)
   where
-    go : (t : Bool) → (if t then suc (x + c) else x + c) ≡ x + (if t then suc c else c)
+    go : (t : Bool) → (If t then suc (x + c) else x + c) ≡ x + (If t then suc c else c)
     go true = omega arith
     go false = refl
 
@@ -44,24 +44,24 @@ touching_cons m j w ws (suc q) =
     ap (λ c. one_more m j (at ws q) c) (touching_cons m j w ws q) ∙ one_more_add m j (at ws q) (one_more m j (some w) 0) (touching m j ws q)
 
 pub touching_numbers : (m j p : ℕ) (ws : List Write) → touching m j ws (length ws) ≡ length (numbers m j p ws)
-unfolding if◌then◌else◌
+unfolding If◌then◌else◌
 touching_numbers m j p [] = refl
 touching_numbers m j p (w ∷ ws) = touching_cons m j w ws (length ws) ∙ go (touches m j w.operations) (touching_numbers m j (suc p) ws)
   where
     go : (t : Bool) → touching m j ws (length ws) ≡ length (numbers m j (suc p) ws)
-        → (if t then 1 else 0) + touching m j ws (length ws) ≡ length (if t then p ∷ numbers m j (suc p) ws else numbers m j (suc p) ws)
+        → (If t then 1 else 0) + touching m j ws (length ws) ≡ length (If t then p ∷ numbers m j (suc p) ws else numbers m j (suc p) ws)
     go true e = omega arith
     go false e = omega arith
 
 -- ---- Taken and queued
 
 two_parts : (last : Option ℕ) (l : List ℕ) → length l ≡ length (up_to last l) + length (above last l)
-unfolding if◌then◌else◌
+unfolding If◌then◌else◌
 two_parts last [] = refl
 two_parts last (x ∷ l) = go (below last x) (two_parts last l)
   where
     go : (t : Bool) → length l ≡ length (up_to last l) + length (above last l)
-        → suc (length l) ≡ length (if t then up_to last l else x ∷ up_to last l) + length (if t then x ∷ above last l else above last l)
+        → suc (length l) ≡ length (If t then up_to last l else x ∷ up_to last l) + length (If t then x ∷ above last l else above last l)
     go true e = omega arith
     go false e = omega arith
 

@@ -10,7 +10,7 @@ use native.Mathlib.Nat.{div-div-eq-div-mul, mul-suc, mul-zero}
 use native.Mathlib.Omega.{arith}
 use lib.Dec.{T, leb, leb→le}
 use lib.ListN.{length, drop, length-append}
-use Rattle.rules.specs.Lists.{if◌then◌else◌, within, every, same}
+use Rattle.rules.specs.Lists.{If◌then◌else◌, within, every, same}
 use Rattle.rules.specs.Transactions.{Operation, get, put, Write, Placed, Read}
 use Rattle.rules.specs.Frames.{Frame, submit, forward, shard_append, exec_notif, executed, response, ok_value, ok_operation, ok_operations, rising, ok_placed, ok_seen, ok_reads, ok_client, ok_number, ok_ind, ok_write, obeys, operation_bytes, placed_bytes, seen_bytes, read_bytes, back_to_back, body_of, encode, length_of, header_of, header_width, two_at, first_operation, first_placed, first_read, items, candidate, spelled, decode}
 use Rattle.rules.proofs.Lists.{by, if_yes, and, and_l, and_r, nothing, same_eq, same_refl}
@@ -61,7 +61,7 @@ pub value_lt : (value : ℕ) → T (ok_value value) → value < 4294967296
 value_lt value t = let h = leb→le value 4294967295 t in omega arith
 
 operation_back : (x : Operation) (t : List ℕ) → T (ok_operation x) → first_operation (operation_bytes x ++ t) ≡ x
-unfolding if◌then◌else◌
+unfolding If◌then◌else◌
 operation_back (get key) t h = refl
 operation_back (put key value) t h = λ i. put key (four_back value (value_lt value (and_r (leb key 255) (ok_value value) h)) i)
 
@@ -76,7 +76,7 @@ placed_rest : (x : Placed) (t : List ℕ) → drop 7 (placed_bytes x ++ t) ≡ t
 placed_rest x t = operation_rest x.operation t
 
 read_back : (r : Read) (t : List ℕ) → T (ok_seen r.value) → first_read (read_bytes r ++ t) ≡ r
-unfolding if◌then◌else◌
+unfolding If◌then◌else◌
 read_back r t h = go r.value h
   where
     go : (v : Option ℕ) → T (ok_seen v) → first_read (read_bytes (record { place = r.place; value = v }) ++ t) ≡ record { place = r.place; value = v }
@@ -143,7 +143,7 @@ write_rules w ack h =
 
 -- the candidate made of a frame's bytes is the frame
 pub candidate_back : (f : Frame) → T (obeys f) → candidate (two_at (encode f) 2) (drop (2 + header_width) (encode f)) ≡ some f
-unfolding obeys encode candidate if◌then◌else◌
+unfolding obeys encode candidate If◌then◌else◌
 candidate_back (submit w ack) h =
     let r = write_rules w ack h in
     λ i.

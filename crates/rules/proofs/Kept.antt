@@ -2,14 +2,14 @@
 -- Assumes nothing.
 use mathlib.Core.Path.{◌≡◌, refl, sym, ap, ◌∙◌}
 use mathlib.Core.Logic.{◌⊎◌, inl, inr}
-use mathlib.Core.Bool.{Bool, true, false, not}
+use mathlib.Core.Bool.{Bool, true, false}
 use mathlib.Core.List.{List, [], ◌∷◌}
 use mathlib.Core.Option.{Option, none, some}
 use Prim.Native.Nat.{ℕ, zero, suc, ◌<◌}
 use native.Mathlib.Omega.{arith}
 use lib.Dec.{T, eqb, lt→ltb, eqb→eq}
 use lib.ListN.{length, set, length-append, length-set, length-map}
-use Rattle.rules.specs.Lists.{if◌then◌else◌, at, snoc, below, has}
+use Rattle.rules.specs.Lists.{If◌then◌else◌, at, snoc, below, has}
 use Rattle.rules.specs.Transactions.{Write, touched, touches}
 use Rattle.rules.specs.Outcomes.{Outcome, taken, refuse}
 use Rattle.rules.specs.Queue.{Queue, enqueue}
@@ -61,7 +61,7 @@ append_kept w b k =
     }
   where
     queued : (j : ℕ) → QueueRule b.m j (snoc (writes b.log) w)
-        (if touches b.m j w.operations then enqueue (length (writes b.log)) (b.queue j) else b.queue j)
+        (If touches b.m j w.operations then enqueue (length (writes b.log)) (b.queue j) else b.queue j)
     queued j =
         queued_kept b.m j (writes b.log) (b.queue j) w (k.queues j)
         (rw (length-map b.log (λ (e : Entry). e.write)) (below_length (b.queue j).last_taken (length b.log) (k.lasts j)))

@@ -9,7 +9,7 @@ use native.Mathlib.Omega.{arith}
 use lib.Dec.{T, eqb, eqb→eq, eqb_refl, T_not}
 use lib.ListN.{length}
 use mir.Facts.{yes_eqb, no_eqb, eqb_no}
-use Rattle.rules.specs.Lists.{if◌then◌else◌, at, snoc, changed}
+use Rattle.rules.specs.Lists.{If◌then◌else◌, at, snoc, changed}
 use Rattle.rules.specs.Transactions.{Write}
 use Rattle.rules.specs.Outcomes.{Outcome, taken, refuse}
 use Rattle.rules.specs.Board.{Entry, Board, empty_board, start, writes, next_number, one_further, find, holding, raise_floor, new_entry, append, settle, serve_new, heard_from, finished, step}
@@ -21,14 +21,14 @@ use Rattle.rules.proofs.Kept.{writes_snoc, writes_set, at_writes}
 -- ---- high + 1 counts a client's entries
 
 next_from : (c k : ℕ) (ws : List Write) → Counted k (of_client c ws) → max k (next_number c ws) ≡ k + length (of_client c ws)
-unfolding if◌then◌else◌
+unfolding If◌then◌else◌
 next_from c k [] = λ h. omega arith
 next_from c k (w ∷ ws) = go (eqb w.client c) (next_from c (suc k) ws) (next_from c k ws)
   where
     go : (t : Bool) → (Counted (suc k) (of_client c ws) → max (suc k) (next_number c ws) ≡ suc k + length (of_client c ws))
         → (Counted k (of_client c ws) → max k (next_number c ws) ≡ k + length (of_client c ws))
-        → Counted k (if t then w ∷ of_client c ws else of_client c ws)
-        → max k (if t then max (suc w.number) (next_number c ws) else next_number c ws) ≡ k + length (if t then w ∷ of_client c ws else of_client c ws)
+        → Counted k (If t then w ∷ of_client c ws else of_client c ws)
+        → max k (If t then max (suc w.number) (next_number c ws) else next_number c ws) ≡ k + length (If t then w ∷ of_client c ws else of_client c ws)
     go true own other h = let e = own h.1 in rw h.0 (omega arith)
     go false own other h = other h
 
@@ -141,14 +141,14 @@ find_stands c k ws h l =
 
 -- ---- Every start gives it and every step keeps it
 
-client_snoc : (c : ℕ) (ws : List Write) (w : Write) → of_client c (snoc ws w) ≡ (if eqb w.client c then snoc (of_client c ws) w else of_client c ws)
-unfolding if◌then◌else◌
+client_snoc : (c : ℕ) (ws : List Write) (w : Write) → of_client c (snoc ws w) ≡ (If eqb w.client c then snoc (of_client c ws) w else of_client c ws)
+unfolding If◌then◌else◌
 client_snoc c [] w = refl
 client_snoc c (v ∷ ws) w = go (eqb v.client c) (eqb w.client c) (client_snoc c ws w)
   where
-    go : (s t : Bool) → of_client c (snoc ws w) ≡ (if t then snoc (of_client c ws) w else of_client c ws)
-        → (if s then v ∷ of_client c (snoc ws w) else of_client c (snoc ws w))
-        ≡ (if t then snoc (if s then v ∷ of_client c ws else of_client c ws) w else (if s then v ∷ of_client c ws else of_client c ws))
+    go : (s t : Bool) → of_client c (snoc ws w) ≡ (If t then snoc (of_client c ws) w else of_client c ws)
+        → (If s then v ∷ of_client c (snoc ws w) else of_client c (snoc ws w))
+        ≡ (If t then snoc (If s then v ∷ of_client c ws else of_client c ws) w else (If s then v ∷ of_client c ws else of_client c ws))
     go true true e = ap {B = List Write} (λ l. v ∷ l) e
     go true false e = ap {B = List Write} (λ l. v ∷ l) e
     go false true e = e
@@ -159,12 +159,12 @@ counted_snoc k [] w h e = (omega arith, tt)
 counted_snoc k (v ∷ l) w h e = (h.0, counted_snoc (suc k) l w h.1 (omega arith))
 
 next_snoc : (c : ℕ) (ws : List Write) (w : Write) → next_number c ws ≤ next_number c (snoc ws w)
-unfolding if◌then◌else◌
+unfolding If◌then◌else◌
 next_snoc c [] w = omega arith
 next_snoc c (v ∷ ws) w = go (eqb v.client c) (next_snoc c ws w)
   where
     go : (s : Bool) → next_number c ws ≤ next_number c (snoc ws w)
-        → (if s then max (suc v.number) (next_number c ws) else next_number c ws) ≤ (if s then max (suc v.number) (next_number c (snoc ws w)) else next_number c (snoc ws w))
+        → (If s then max (suc v.number) (next_number c ws) else next_number c ws) ≤ (If s then max (suc v.number) (next_number c (snoc ws w)) else next_number c (snoc ws w))
     go true h = omega arith
     go false h = h
 

@@ -9,7 +9,7 @@ use Prim.Native.Nat.{ℕ, suc, ◌+◌, ◌*◌, ◌≤◌, ◌<◌, min}
 use native.Mathlib.Omega.{arith}
 use lib.Dec.{T, leb, ltb, eqb, leb→le, le→leb, eqb→eq, eqb_refl, T_not}
 use lib.ListN.{length, length-append, length-set}
-use Rattle.rules.specs.Lists.{if◌then◌else◌, within, at, is_empty, every, changed, has, insert, strike}
+use Rattle.rules.specs.Lists.{If◌then◌else◌, within, at, is_empty, every, changed, has, insert, strike}
 use Rattle.rules.specs.Transactions.{Operation, Write, Placed, Read, key_of, shard_of, touched, touches, placed, keep, on_shard, get_places}
 use Rattle.rules.specs.Frames.{Frame, shard_append, ok_client, ok_number, ok_ind, ok_seen, rising, ok_operations, ok_write, ok_placed, ok_reads, obeys}
 use Rattle.rules.specs.Outcomes.{Outcome, taken, refuse, sent_bytes}
@@ -52,8 +52,8 @@ unfolding ok_operations
 some_touched m [] t = absurd t
 some_touched m (o ∷ os) t = insert_some (shard_of m (key_of o)) (touched m os)
 
-none_or_some : (none? : Bool) → is_exe (if none? then EXE else PRE) ≡ none?
-unfolding if◌then◌else◌
+none_or_some : (none? : Bool) → is_exe (If none? then EXE else PRE) ≡ none?
+unfolding If◌then◌else◌
 none_or_some true = refl
 none_or_some false = refl
 

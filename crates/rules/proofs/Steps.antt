@@ -9,7 +9,7 @@ use Prim.Native.Nat.{ℕ, ◌≤◌, ◌<◌}
 use native.Mathlib.Omega.{arith}
 use lib.Dec.{T, ltb, eqb, leb→le, nleb→lt, nltb→le, eqb→eq}
 use lib.ListN.{length}
-use Rattle.rules.specs.Lists.{if◌then◌else◌, within, at, has}
+use Rattle.rules.specs.Lists.{If◌then◌else◌, within, at, has}
 use Rattle.rules.specs.Transactions.{Operation, get, put, Write, Read, touched, placed, on_shard, same_operation, same_operations, same_write}
 use Rattle.rules.specs.Frames.{Frame, submit, forward, shard_append, exec_notif, executed, response, ok_ind, ok_reads, ok_write, obeys, decode}
 use Rattle.rules.specs.Outcomes.{Outcome, taken, refuse}
@@ -60,7 +60,7 @@ pub data Deed (b : Board) : Outcome Board → Type 0 where
   heard : (j ind : ℕ) (rs : List Read) (e : Entry) → T b.started → at b.log ind ≡ some e → T (has j e.remaining) → T (ok_reads rs)
       → T (fits rs (on_shard b.m j e.write.operations))
       → Deed b
-      (taken (settle ind (heard_from j rs e) (j ∷ []) b) (if is_exe (heard_from j rs e).status then backward b ind (heard_from j rs e) ∷ [] else []))
+      (taken (settle ind (heard_from j rs e) (j ∷ []) b) (If is_exe (heard_from j rs e).status then backward b ind (heard_from j rs e) ∷ [] else []))
   -- the boards behind have it EXE
   done : (ind : ℕ) (rs : List Read) (e : Entry) → T b.started → at b.log ind ≡ some e → T (ok_reads rs) → T (fits rs (placed 0 e.write.operations))
       → Deed b (taken (settle ind (finished rs e) (touched b.m e.write.operations) b) (backward b ind (finished rs e) ∷ []))

@@ -2,7 +2,7 @@
 -- Assumes nothing.
 use Rattle.std.specs.Prelude.{Bool, true, false, not, ◌&&◌, List, [], ◌∷◌, map, ℕ, zero, suc, min, max, length, set}
 use Rattle.std.proofs.Math.Option.{Option, none, some}
-use Rattle.rules.specs.Lists.{if◌then◌else◌, ◌<?◌, ◌≤?◌, ◌=?◌, within, at, snoc, is_empty, changed, same, has, strike}
+use Rattle.rules.specs.Lists.{If◌then◌else◌, ◌<?◌, ◌≤?◌, ◌=?◌, within, at, snoc, is_empty, changed, same, has, strike}
 use Rattle.rules.specs.Answers.{breaks_rule, not_for_me, below_floor, too_early, log_full, not_in_log, too_late, does_not_fit, not_usable}
 use Rattle.rules.specs.Transactions.{Write, Placed, Read, touched, touches, placed, on_shard, get_places, same_write}
 use Rattle.rules.specs.Frames.{Frame, submit, forward, shard_append, exec_notif, executed, response, decode}
@@ -44,7 +44,7 @@ empty_board started n m own =
 -- "Boards n: 2..8, numbered 1 (head) to n (tail). Shard groups m: 1..8"; "A refused start hands back an empty state marked as not started"
 unfoldable pub start : ℕ → ℕ → ℕ → Outcome Board
 start n m own =
-    if within 2 8 n && within 1 8 m && within 1 n own then taken (empty_board true n m own) [] else
+    If within 2 8 n && within 1 8 m && within 1 n own then taken (empty_board true n m own) [] else
     refuse not_usable (empty_board false 0 0 0)
 
 -- ---- What a log says
@@ -59,7 +59,7 @@ writes log = map (λ (e : Entry). e.write) log
 -- high + 1, where high is "the largest number in the log (none: −1)"; 004's max(W_i^key | cid).num + 1
 abbrev pub next_number : ℕ → List Write → ℕ
 next_number client [] = 0
-next_number client (w ∷ ws) = if w.client =? client then max (suc w.number) (next_number client ws) else next_number client ws
+next_number client (w ∷ ws) = If w.client =? client then max (suc w.number) (next_number client ws) else next_number client ws
 
 abbrev pub one_further : Option ℕ → Option ℕ
 one_further none = none
@@ -68,11 +68,11 @@ one_further (some ind) = some (suc ind)
 -- the log number under which a client's number is held: there is one at the most (only_once, in proofs/Numbers)
 abbrev pub find : ℕ → ℕ → List Write → Option ℕ
 find client number [] = none
-find client number (w ∷ ws) = if w.client =? client && w.number =? number then some 0 else one_further (find client number ws)
+find client number (w ∷ ws) = If w.client =? client && w.number =? number then some 0 else one_further (find client number ws)
 
 abbrev pub one_more : ℕ → ℕ → Option Write → ℕ → ℕ
 one_more m j none count = count
-one_more m j (some w) count = if touches m j w.operations then suc count else count
+one_more m j (some w) count = If touches m j w.operations then suc count else count
 
 -- how many of the first q entries touch shard j, "gets included"
 abbrev pub touching : ℕ → ℕ → List Write → ℕ → ℕ
@@ -91,7 +91,7 @@ raise_floor client ack b = holding b.log (changed b.floor client (max (b.floor c
 
 -- the queues of some shards changed
 unfoldable pub on_queues : List ℕ → (Queue → Queue) → (ℕ → Queue) → (ℕ → Queue)
-on_queues shards change queue = λ j. if has j shards then change (queue j) else queue j
+on_queues shards change queue = λ j. If has j shards then change (queue j) else queue j
 
 -- "The remaining shards of an entry are .. at first all that its keys touch"
 unfoldable pub new_entry : ℕ → Write → Entry
@@ -121,15 +121,15 @@ shard_append_of b ind w j = shard_append j ind (touching b.m j (writes b.log) (s
 
 -- "Executed to i−1, or from the head Response to the client"; ExecAppendTransact, lines 9 to 13
 unfoldable pub backward : Board → ℕ → Entry → Frame
-backward b ind e = if b.own =? 1 then response e.write.client e.write.number e.reads else executed ind e.reads
+backward b ind e = If b.own =? 1 then response e.write.client e.write.number e.reads else executed ind e.reads
 
 -- "if EXE, send Executed to i−1; else if i < n, send Forward; else send ShardAppend for each remaining shard, rising";
 -- AppendTransact, lines 21 to 28. Other than 004, line 5, which returns: a held entry that is still PRE is sent on again.
 -- The head is before the tail, so there: "PRE: send Forward .. EXE: send Response with the stored reads".
 unfoldable pub onward : Board → ℕ → Entry → List Frame
 onward b ind e =
-    if is_exe e.status then backward b ind e ∷ [] else
-    if b.own <? b.n then forward_of b ind e.write ∷ [] else
+    If is_exe e.status then backward b ind e ∷ [] else
+    If b.own <? b.n then forward_of b ind e.write ∷ [] else
     map (shard_append_of b ind e.write) e.remaining
 
 -- ---- Submit at board 1, Forward at board i ≥ 2: AppendTransact
@@ -145,7 +145,7 @@ serve_new b w ack =
 unfoldable pub serve_held : Board → ℕ → Write → ℕ → Option Entry → Outcome Board
 serve_held b ind w ack none = refuse does_not_fit b
 serve_held b ind w ack (some e) =
-    if not (same_write e.write w) then refuse does_not_fit b else
+    If not (same_write e.write w) then refuse does_not_fit b else
     let after = raise_floor w.client ack b in
     taken after (onward after ind e)
 
@@ -158,18 +158,18 @@ serve_found b w ack (some ind) = serve_held b ind w ack (at b.log ind)
 unfoldable pub submit_step : Board → Write → ℕ → Outcome Board
 submit_step b w ack =
     let next = next_number w.client (writes b.log) in
-    if w.number <? b.floor w.client then refuse below_floor b else
-    if next <? w.number then refuse too_early b else
-    if w.number <? next then serve_found b w ack (find w.client w.number (writes b.log)) else
-    if log_size ≤? length b.log then refuse log_full b else
+    If w.number <? b.floor w.client then refuse below_floor b else
+    If next <? w.number then refuse too_early b else
+    If w.number <? next then serve_found b w ack (find w.client w.number (writes b.log)) else
+    If log_size ≤? length b.log then refuse log_full b else
     serve_new b w ack
 
 -- Forward at board i ≥ 2; refusals 4, 8
 unfoldable pub forward_step : Board → ℕ → Write → ℕ → Outcome Board
 forward_step b ind w ack =
-    if length b.log <? ind then refuse too_early b else
-    if ind <? length b.log then serve_held b ind w ack (at b.log ind) else
-    if not (w.number =? next_number w.client (writes b.log)) then refuse does_not_fit b else
+    If length b.log <? ind then refuse too_early b else
+    If ind <? length b.log then serve_held b ind w ack (at b.log ind) else
+    If not (w.number =? next_number w.client (writes b.log)) then refuse does_not_fit b else
     serve_new b w ack
 
 -- ---- ExecNotif at the tail
@@ -181,7 +181,7 @@ fits rs xs = same (map (λ (r : Read). r.place) rs) (get_places xs)
 -- "store the reads": those of several shards stand by rising place, whichever answer came first; ExecNotif, line 9
 abbrev pub add_read : Read → List Read → List Read
 add_read r [] = r ∷ []
-add_read r (s ∷ ss) = if r.place <? s.place then r ∷ s ∷ ss else s ∷ add_read r ss
+add_read r (s ∷ ss) = If r.place <? s.place then r ∷ s ∷ ss else s ∷ add_read r ss
 
 abbrev pub add_reads : List Read → List Read → List Read
 add_reads [] ss = ss
@@ -191,16 +191,16 @@ add_reads (r ∷ rs) ss = add_read r (add_reads rs ss)
 unfoldable pub heard_from : ℕ → List Read → Entry → Entry
 heard_from j rs e =
     let left = strike j e.remaining in
-    record { write = e.write; status = if is_empty left then EXE else PRE; reads = add_reads rs e.reads; remaining = left }
+    record { write = e.write; status = If is_empty left then EXE else PRE; reads = add_reads rs e.reads; remaining = left }
 
 -- "Take up to the log number on that shard's queue .. When none remains: EXE, and Executed goes to n−1"; ExecNotif. Refusals 6, 7, 8
 unfoldable pub exec_notif_step : Board → ℕ → ℕ → List Read → Option Entry → Outcome Board
 exec_notif_step b j ind rs none = refuse not_in_log b
 exec_notif_step b j ind rs (some e) =
-    if not (has j e.remaining) then refuse too_late b else
-    if not (fits rs (on_shard b.m j e.write.operations)) then refuse does_not_fit b else
+    If not (has j e.remaining) then refuse too_late b else
+    If not (fits rs (on_shard b.m j e.write.operations)) then refuse does_not_fit b else
     let heard = heard_from j rs e in
-    taken (settle ind heard (j ∷ []) b) (if is_exe heard.status then backward b ind heard ∷ [] else [])
+    taken (settle ind heard (j ∷ []) b) (If is_exe heard.status then backward b ind heard ∷ [] else [])
 
 -- ---- Executed at board i < n: ExecAppendTransact
 
@@ -212,8 +212,8 @@ finished rs e = record { write = e.write; status = EXE; reads = rs; remaining = 
 unfoldable pub executed_step : Board → ℕ → List Read → Option Entry → Outcome Board
 executed_step b ind rs none = refuse not_in_log b
 executed_step b ind rs (some e) =
-    if is_exe e.status then refuse too_late b else
-    if not (fits rs (placed 0 e.write.operations)) then refuse does_not_fit b else
+    If is_exe e.status then refuse too_late b else
+    If not (fits rs (placed 0 e.write.operations)) then refuse does_not_fit b else
     taken (settle ind (finished rs e) (touched b.m e.write.operations) b) (backward b ind (finished rs e) ∷ [])
 
 -- ---- A board's step
@@ -221,11 +221,11 @@ executed_step b ind rs (some e) =
 -- refusal 2: "the kind isn't for this receiver; or shard .. exceeds m (kind 4)". The column "to" of the table of frames: kind 1 is for
 -- the head, 2 for every other board, 4 for the tail, 5 for every board but the tail.
 unfoldable pub frame_step : Board → Frame → Outcome Board
-frame_step b (submit w ack) = if b.own =? 1 then submit_step b w ack else refuse not_for_me b
-frame_step b (forward ind w ack) = if 2 ≤? b.own then forward_step b ind w ack else refuse not_for_me b
+frame_step b (submit w ack) = If b.own =? 1 then submit_step b w ack else refuse not_for_me b
+frame_step b (forward ind w ack) = If 2 ≤? b.own then forward_step b ind w ack else refuse not_for_me b
 frame_step b (shard_append j ind sn xs) = refuse not_for_me b
-frame_step b (exec_notif j ind rs) = if b.own =? b.n && j ≤? b.m then exec_notif_step b j ind rs (at b.log ind) else refuse not_for_me b
-frame_step b (executed ind rs) = if b.own <? b.n then executed_step b ind rs (at b.log ind) else refuse not_for_me b
+frame_step b (exec_notif j ind rs) = If b.own =? b.n && j ≤? b.m then exec_notif_step b j ind rs (at b.log ind) else refuse not_for_me b
+frame_step b (executed ind rs) = If b.own <? b.n then executed_step b ind rs (at b.log ind) else refuse not_for_me b
 frame_step b (response client number rs) = refuse not_for_me b
 
 -- refusal 1: the bytes are no frame's
@@ -235,4 +235,4 @@ read_step b (some f) = frame_step b f
 
 -- A frame's bytes arrive, with an out area of some length: "Order: 11, 1, 2, then" the kind's.
 unfoldable pub step : Board → List ℕ → ℕ → Outcome Board
-step b bytes out = if unusable b.started out then refuse not_usable b else read_step b (decode bytes)
+step b bytes out = If unusable b.started out then refuse not_usable b else read_step b (decode bytes)

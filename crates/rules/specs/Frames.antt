@@ -2,7 +2,7 @@
 -- Assumes nothing.
 use Rattle.std.specs.Prelude.{Bool, true, ◌&&◌, List, [], ◌∷◌, ◌++◌, map, ℕ, zero, suc, ◌+◌, ◌*◌, ◌/◌, ◌%◌, length, get_or, drop}
 use Rattle.std.proofs.Math.Option.{Option, none, some}
-use Rattle.rules.specs.Lists.{if◌then◌else◌, ◌≤?◌, ◌=?◌, within, every, same}
+use Rattle.rules.specs.Lists.{If◌then◌else◌, ◌≤?◌, ◌=?◌, within, every, same}
 use Rattle.rules.specs.Transactions.{Operation, get, put, Write, Placed, Read}
 
 -- the table's rows: kind, from and to, body; behind the colon 004's procedure that such a frame calls
@@ -173,13 +173,13 @@ four_at s i = two_at s i + 65536 * two_at s (i + 2)
 
 -- the item with which some bytes begin
 abbrev pub first_operation : List ℕ → Operation
-first_operation s = if byte_at s 0 =? 0 then get (byte_at s 1) else put (byte_at s 1) (four_at s 2)
+first_operation s = If byte_at s 0 =? 0 then get (byte_at s 1) else put (byte_at s 1) (four_at s 2)
 
 abbrev pub first_placed : List ℕ → Placed
 first_placed s = record { place = byte_at s 0; operation = first_operation (drop 1 s) }
 
 abbrev pub first_read : List ℕ → Read
-first_read s = record { place = byte_at s 0; value = if byte_at s 1 =? 0 then none else some (four_at s 2) }
+first_read s = record { place = byte_at s 0; value = If byte_at s 1 =? 0 then none else some (four_at s 2) }
 
 -- so many items of a width, and the list whose count stands at i
 abbrev pub items : {A : Type 0} → (List ℕ → A) → ℕ → ℕ → List ℕ → List A
@@ -205,18 +205,18 @@ write_at s i = record { client = byte_at s i; number = two_at s (i + 1); operati
 -- "The two-byte kind decides the body's layout"
 unfoldable pub candidate : ℕ → List ℕ → Option Frame
 candidate kind body =
-    if kind =? 1 then some (submit (write_at body 0) (two_at body 3)) else
-    if kind =? 2 then some (forward (two_at body 0) (write_at body 2) (two_at body 5)) else
-    if kind =? 3 then some (shard_append (byte_at body 0) (two_at body 1) (two_at body 3) (placed_at body 5)) else
-    if kind =? 4 then some (exec_notif (byte_at body 0) (two_at body 1) (reads_at body 3)) else
-    if kind =? 5 then some (executed (two_at body 0) (reads_at body 2)) else
-    if kind =? 6 then some (response (byte_at body 0) (two_at body 1) (reads_at body 3)) else
+    If kind =? 1 then some (submit (write_at body 0) (two_at body 3)) else
+    If kind =? 2 then some (forward (two_at body 0) (write_at body 2) (two_at body 5)) else
+    If kind =? 3 then some (shard_append (byte_at body 0) (two_at body 1) (two_at body 3) (placed_at body 5)) else
+    If kind =? 4 then some (exec_notif (byte_at body 0) (two_at body 1) (reads_at body 3)) else
+    If kind =? 5 then some (executed (two_at body 0) (reads_at body 2)) else
+    If kind =? 6 then some (response (byte_at body 0) (two_at body 1) (reads_at body 3)) else
     none
 
 -- a frame that obeys the rules, with these bytes and no other: "Nothing may follow a frame"
 unfoldable pub spelled : List ℕ → Option Frame → Option Frame
 spelled s none = none
-spelled s (some f) = if obeys f && same (encode f) s then some f else none
+spelled s (some f) = If obeys f && same (encode f) s then some f else none
 
 -- the kind stands behind the length, the body behind the header
 unfoldable pub decode : List ℕ → Option Frame

@@ -2,7 +2,7 @@
 -- Assumes nothing.
 use Rattle.std.specs.Prelude.{◌≡◌, not, List, [], ◌∷◌, map, ℕ, suc, pred, ◌+◌, ◌≤◌, ◌<◌, T, length}
 use Rattle.std.proofs.Math.Option.{Option, some}
-use Rattle.rules.specs.Lists.{if◌then◌else◌, ◌=?◌, at, is_empty, every, below, has}
+use Rattle.rules.specs.Lists.{If◌then◌else◌, ◌=?◌, at, is_empty, every, below, has}
 use Rattle.rules.specs.Transactions.{Write, Read, shard_of, touches, placed, keep, get_places, value_of}
 use Rattle.rules.specs.Frames.{ok_operations, ok_seen}
 use Rattle.rules.specs.Queue.{Queue}
@@ -13,17 +13,17 @@ use Rattle.rules.specs.Session.{Outstanding, Window, Session, smallest}
 -- "the log numbers touching" shard j, rising, the first entry's being q
 abbrev pub numbers : ℕ → ℕ → ℕ → List Write → List ℕ
 numbers m j q [] = []
-numbers m j q (w ∷ ws) = if touches m j w.operations then q ∷ numbers m j (suc q) ws else numbers m j (suc q) ws
+numbers m j q (w ∷ ws) = If touches m j w.operations then q ∷ numbers m j (suc q) ws else numbers m j (suc q) ws
 
 -- those "above the last taken one"
 abbrev pub above : Option ℕ → List ℕ → List ℕ
 above last [] = []
-above last (x ∷ xs) = if below last x then x ∷ above last xs else above last xs
+above last (x ∷ xs) = If below last x then x ∷ above last xs else above last xs
 
 -- those that are not, which were taken; "So touching entries = taken + queued": touching_is, in proofs/Counts
 abbrev pub up_to : Option ℕ → List ℕ → List ℕ
 up_to last [] = []
-up_to last (x ∷ xs) = if below last x then up_to last xs else x ∷ up_to last xs
+up_to last (x ∷ xs) = If below last x then up_to last xs else x ∷ up_to last xs
 
 -- "At every moment a shard's queue is exactly the log numbers touching it that are above the last taken one, rising".
 -- Other than 004, Figure 1, item 2, which says: exactly the PRE entries. That is false when answers arrive out of order.
@@ -63,7 +63,7 @@ pub record SizesKept (b : Board) : Type 0 where
 -- a client's entries
 abbrev pub of_client : ℕ → List Write → List Write
 of_client c [] = []
-of_client c (w ∷ ws) = if w.client =? c then w ∷ of_client c ws else of_client c ws
+of_client c (w ∷ ws) = If w.client =? c then w ∷ of_client c ws else of_client c ws
 
 -- numbered one by one, from k on
 abbrev pub Counted : ℕ → List Write → Type 0

@@ -2,7 +2,7 @@
 -- Assumes nothing.
 use Rattle.std.specs.Prelude.{Bool, true, false, not, ◌&&◌, List, [], ◌∷◌, ℕ, suc, ◌+◌}
 use Rattle.std.proofs.Math.Option.{Option, none, some}
-use Rattle.rules.specs.Lists.{if◌then◌else◌, ◌≤?◌, ◌=?◌, snoc}
+use Rattle.rules.specs.Lists.{If◌then◌else◌, ◌≤?◌, ◌=?◌, snoc}
 use Rattle.rules.specs.Answers.{done, breaks_rule, not_for_me, too_late, does_not_fit, window_full, numbers_used_up, not_usable}
 use Rattle.rules.specs.Transactions.{Operation, get, put, Read, placed}
 use Rattle.rules.specs.Frames.{Frame, submit, forward, shard_append, exec_notif, executed, response, ok_operations, ok_client, decode}
@@ -43,7 +43,7 @@ invoked os w = record { next = suc w.next; outstanding = snoc w.outstanding (rec
 
 abbrev pub without : ℕ → List Outstanding → List Outstanding
 without number [] = []
-without number (o ∷ os) = if o.number =? number then without number os else o ∷ without number os
+without number (o ∷ os) = If o.number =? number then without number os else o ∷ without number os
 
 -- "makes its number outstanding no more"; SessionRespWrite, line 1
 unfoldable pub answered : ℕ → Window → Window
@@ -52,7 +52,7 @@ answered number w = record { next = w.next; outstanding = without number w.outst
 -- "the kept operations" of an outstanding number
 abbrev pub operations_of : ℕ → List Outstanding → Option (List Operation)
 operations_of number [] = none
-operations_of number (o ∷ os) = if o.number =? number then some o.operations else operations_of number os
+operations_of number (o ∷ os) = If o.number =? number then some o.operations else operations_of number os
 
 -- ---- The invoked list, as the lift controller's program hands it over
 
@@ -65,8 +65,8 @@ pub record Asked : Type 0 where
 -- the operation that is meant; none: a rule is broken
 unfoldable pub meant : Asked → Option Operation
 meant a =
-    if a.code =? 0 && a.value =? 0 then some (get a.key) else
-    if a.code =? 1 then some (put a.key a.value) else
+    If a.code =? 0 && a.value =? 0 then some (get a.key) else
+    If a.code =? 1 then some (put a.key a.value) else
     none
 
 unfoldable pub put_before : Option Operation → Option (List Operation) → Option (List Operation)
@@ -90,7 +90,7 @@ pub record Session : Type 0 where
 -- "Clients 0..15"; "A refused start hands back an empty state marked as not started"
 unfoldable pub start : ℕ → Outcome Session
 start client =
-    if ok_client client then taken (record { started = true; client = client; window = empty_window }) [] else
+    If ok_client client then taken (record { started = true; client = client; window = empty_window }) [] else
     refuse not_usable (record { started = false; client = 0; window = empty_window })
 
 -- a session with this window, otherwise as before
@@ -107,15 +107,15 @@ unfoldable pub invoke_step : Session → Option (List Operation) → Outcome Ses
 invoke_step s none = refuse breaks_rule s
 invoke_step s (some os) =
     let number = (s.window).next in
-    if not (ok_operations os) then refuse breaks_rule s else
-    if 65535 ≤? number then refuse numbers_used_up s else
-    if smallest s.window + window_size ≤? number then refuse window_full s else
+    If not (ok_operations os) then refuse breaks_rule s else
+    If 65535 ≤? number then refuse numbers_used_up s else
+    If smallest s.window + window_size ≤? number then refuse window_full s else
     let after = with_window (invoked os s.window) s in
     taken after (submit_of after number os ∷ [])
 
 -- "Order: 11, 1, .. invoke: 10, 9"
 unfoldable pub invoke : Session → List Asked → ℕ → Outcome Session
-invoke s asked out = if unusable s.started out then refuse not_usable s else invoke_step s (all_meant asked)
+invoke s asked out = If unusable s.started out then refuse not_usable s else invoke_step s (all_meant asked)
 
 -- "Retry sends Submit again with the kept operations and the present ack"
 unfoldable pub send_again : Session → ℕ → Option (List Operation) → Outcome Session
@@ -124,7 +124,7 @@ send_again s number (some os) = taken s (submit_of s number os ∷ [])
 
 -- SessionRuntimeAppend with isRetry; refusals 11, 7
 unfoldable pub retry : Session → ℕ → ℕ → Outcome Session
-retry s number out = if unusable s.started out then refuse not_usable s else send_again s number (operations_of number (s.window).outstanding)
+retry s number out = If unusable s.started out then refuse not_usable s else send_again s number (operations_of number (s.window).outstanding)
 
 -- ---- Response: SessionRespWrite
 
@@ -143,7 +143,7 @@ decline refusal s = record { answer = refusal; session = s; number = 0; reads = 
 unfoldable pub hand_over : Session → ℕ → List Read → Option (List Operation) → Reply
 hand_over s number rs none = decline too_late s
 hand_over s number rs (some os) =
-    if not (fits rs (placed 0 os)) then decline does_not_fit s else
+    If not (fits rs (placed 0 os)) then decline does_not_fit s else
     record { answer = done; session = with_window (answered number s.window) s; number = number; reads = rs }
 
 -- refusal 2: "the kind isn't for this receiver; or .. client isn't its own (kind 6)"
@@ -153,7 +153,7 @@ frame_step s (forward ind w ack) = decline not_for_me s
 frame_step s (shard_append j ind sn xs) = decline not_for_me s
 frame_step s (exec_notif j ind rs) = decline not_for_me s
 frame_step s (executed ind rs) = decline not_for_me s
-frame_step s (response client number rs) = if client =? s.client then hand_over s number rs (operations_of number (s.window).outstanding) else decline not_for_me s
+frame_step s (response client number rs) = If client =? s.client then hand_over s number rs (operations_of number (s.window).outstanding) else decline not_for_me s
 
 -- refusal 1: the bytes are no frame's
 unfoldable pub read_step : Session → Option Frame → Reply
@@ -162,4 +162,4 @@ read_step s (some f) = frame_step s f
 
 -- A frame's bytes arrive. "A Response step has no out area, so there 11 has only its middle cause"; then 1, 2, 7, 8.
 unfoldable pub step : Session → List ℕ → Reply
-step s bytes = if not s.started then decline not_usable s else read_step s (decode bytes)
+step s bytes = If not s.started then decline not_usable s else read_step s (decode bytes)

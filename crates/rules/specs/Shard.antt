@@ -2,7 +2,7 @@
 -- Assumes nothing.
 use Rattle.std.specs.Prelude.{Bool, true, false, not, ◌&&◌, List, [], ◌∷◌, ℕ, ◌+◌}
 use Rattle.std.proofs.Math.Option.{Option, none, some}
-use Rattle.rules.specs.Lists.{if◌then◌else◌, ◌<?◌, ◌≤?◌, ◌=?◌, within, every, below}
+use Rattle.rules.specs.Lists.{If◌then◌else◌, ◌<?◌, ◌≤?◌, ◌=?◌, within, every, below}
 use Rattle.rules.specs.Answers.{breaks_rule, not_for_me, too_early, too_late, does_not_fit, not_usable}
 use Rattle.rules.specs.Transactions.{Placed, Store, key_of, shard_of, store_after, reads_of}
 use Rattle.rules.specs.Frames.{Frame, submit, forward, shard_append, exec_notif, executed, response, decode}
@@ -23,7 +23,7 @@ empty_shard started m own = record { started = started; m = m; own = own; store 
 
 -- "Shard groups m: 1..8, numbered from 1"; "A refused start hands back an empty state marked as not started"
 unfoldable pub start : ℕ → ℕ → Outcome Shard
-start m own = if within 1 8 m && within 1 m own then taken (empty_shard true m own) [] else refuse not_usable (empty_shard false 0 0)
+start m own = If within 1 8 m && within 1 m own then taken (empty_shard true m own) [] else refuse not_usable (empty_shard false 0 0)
 
 -- "runs its operations in order; a get sees earlier puts of the same list. Each put stores the value and the log number. Then ssn
 -- and last run move"; ShardExecAppend, lines 7 to 18. Other than 004's figure, where ssn counts only changes of state: it counts each.
@@ -38,17 +38,17 @@ all_mine s xs = every (λ x. shard_of s.m (key_of x.operation) =? s.own) xs
 -- "Where 004 waits, refusal 4 is given and a later copy of the frame serves."
 unfoldable pub append_step : Shard → ℕ → ℕ → List Placed → Outcome Shard
 append_step s ind sn xs =
-    if sn ≤? s.ssn then refuse too_late s else
-    if s.ssn + 1 <? sn then refuse too_early s else
-    if not (all_mine s xs) then refuse does_not_fit s else
-    if not (below s.last_run ind) then refuse does_not_fit s else
+    If sn ≤? s.ssn then refuse too_late s else
+    If s.ssn + 1 <? sn then refuse too_early s else
+    If not (all_mine s xs) then refuse does_not_fit s else
+    If not (below s.last_run ind) then refuse does_not_fit s else
     taken (run ind sn xs s) (exec_notif s.own ind (reads_of ind s.store xs) ∷ [])
 
 -- refusal 2: "the kind isn't for this receiver; or shard isn't its own (kind 3)"
 unfoldable pub frame_step : Shard → Frame → Outcome Shard
 frame_step s (submit w ack) = refuse not_for_me s
 frame_step s (forward ind w ack) = refuse not_for_me s
-frame_step s (shard_append j ind sn xs) = if j =? s.own then append_step s ind sn xs else refuse not_for_me s
+frame_step s (shard_append j ind sn xs) = If j =? s.own then append_step s ind sn xs else refuse not_for_me s
 frame_step s (exec_notif j ind rs) = refuse not_for_me s
 frame_step s (executed ind rs) = refuse not_for_me s
 frame_step s (response client number rs) = refuse not_for_me s
@@ -60,4 +60,4 @@ read_step s (some f) = frame_step s f
 
 -- A frame's bytes arrive, with an out area of some length: "Order: 11, 1, 2, then" the kind's.
 unfoldable pub step : Shard → List ℕ → ℕ → Outcome Shard
-step s bytes out = if unusable s.started out then refuse not_usable s else read_step s (decode bytes)
+step s bytes out = If unusable s.started out then refuse not_usable s else read_step s (decode bytes)

@@ -2,7 +2,7 @@
 -- Assumes nothing.
 use Rattle.std.specs.Prelude.{Bool, true, false, ◌&&◌, List, [], ◌∷◌, ℕ, zero, suc, ◌+◌, ◌%◌}
 use Rattle.std.proofs.Math.Option.{Option, none, some}
-use Rattle.rules.specs.Lists.{if◌then◌else◌, ◌=?◌, at, changed, has, insert}
+use Rattle.rules.specs.Lists.{If◌then◌else◌, ◌=?◌, at, changed, has, insert}
 
 -- "operations, get or put"; that a list has 1 to 4 of them is a rule of frames and of invoked lists: ok_operations
 pub data Operation : Type 0 where
@@ -51,7 +51,7 @@ placed p (o ∷ os) = record { place = p; operation = o } ∷ placed (suc p) os
 -- those whose key passes a test
 abbrev pub keep : (ℕ → Bool) → List Placed → List Placed
 keep ok [] = []
-keep ok (x ∷ xs) = if ok (key_of x.operation) then x ∷ keep ok xs else keep ok xs
+keep ok (x ∷ xs) = If ok (key_of x.operation) then x ∷ keep ok xs else keep ok xs
 
 -- 004's sub-transaction T|j: the operations on shard j, their places those in T
 abbrev pub on_shard : ℕ → ℕ → List Operation → List Placed

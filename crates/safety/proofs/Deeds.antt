@@ -7,7 +7,7 @@ use mathlib.Core.Option.{Option, none, some}
 use Prim.Native.Nat.{ℕ, ◌≤◌}
 use native.Mathlib.Omega.{arith}
 use lib.Dec.{T, leb→le, nleb→lt, nltb→le, eqb→eq}
-use Rattle.rules.specs.Lists.{if◌then◌else◌, at, has}
+use Rattle.rules.specs.Lists.{If◌then◌else◌, at, has}
 use Rattle.rules.specs.Answers.{done, breaks_rule, not_for_me, too_late, does_not_fit, window_full, numbers_used_up, not_usable}
 use Rattle.rules.specs.Transactions.{Operation, Write, Placed, Read, touched}
 use Rattle.rules.specs.Frames.{Frame, submit, forward, shard_append, exec_notif, executed, response}
@@ -36,7 +36,7 @@ pub data Deed (b : Board) : Frame → Outcome Board → Type 0 where
   -- one more shard has answered
   heard : (j ind : ℕ) (rs : List Read) (e : Entry) → at b.log ind ≡ some e → T (has j e.remaining)
       → Deed b (exec_notif j ind rs)
-      (taken (settle ind (heard_from j rs e) (j ∷ []) b) (if is_exe (heard_from j rs e).status then backward b ind (heard_from j rs e) ∷ [] else []))
+      (taken (settle ind (heard_from j rs e) (j ∷ []) b) (If is_exe (heard_from j rs e).status then backward b ind (heard_from j rs e) ∷ [] else []))
   -- all have, says the board behind
   ended : (ind : ℕ) (rs : List Read) (e : Entry) → at b.log ind ≡ some e
       → Deed b (executed ind rs) (taken (settle ind (finished rs e) (touched b.m e.write.operations) b) (backward b ind (finished rs e) ∷ []))

@@ -157,13 +157,13 @@ module _ (n m : ℕ) (E : ℕ → List Entry) (H : Past) (i : ℕ) (lo : 1 ≤ i
       go (inr b) = absurd (unfold new_entry in (rw b.1 at t))
   new_ends _ _ (marked q d c fs b how s) old to ind e a t = go (at_set_cases (E i) q c ind e a)
     where
-      by_how : {g : Frame} {x : Entry} → Remark d q g x → RightTo n m (logs_of E) H (board i) g → EndedTo n E (board i) g → Behind n E i q
-      by_how (by_notif j rs status h o) (heard _ _ _ _ w z r u y) to = λ k l u. absurd (omega arith)
-      by_how (by_executed rs) r to = to i refl
+      by_how : {g : Frame} {x : Entry} {here : Address} → Remark d q g x → RightTo n m (logs_of E) H here g → here ≡ board i → EndedTo n E here g → Behind n E i q
+      by_how (by_notif j rs status h o) (heard b _ _ _ w z r u y) is to = λ k l u. let v : b ≡ i = cc in absurd (omega arith)
+      by_how (by_executed rs) r is to = to i is
 
       go : (at (E i) ind ≡ some e) ⊎ ((ind ≡ q) × (e ≡ c)) → Behind n E i ind
       go (inl b) = old i ind lo (record { entry = e; stands = b; exe = t })
-      go (inr b) = rw b.0 (by_how how right to)
+      go (inr b) = rw b.0 (by_how how right refl to)
 
   pub board_ends : (log : List Entry) (fs : List Frame) → Moved n m i (E i) f log fs → Ends n E → EndedTo n E (board i) f → Ends n (changed E i log)
   board_ends log fs mv old to j ind l x = go (changed_cases E i log j)

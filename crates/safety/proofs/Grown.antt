@@ -20,7 +20,7 @@ use Rattle.safety.specs.Machine.{From, from_client, from_board}
 use Rattle.safety.proofs.Lists.{Changed, there, elsewhere, changed_cases, changed_map, Under, under_snoc, at_snoc_old, all_map}
 use Rattle.safety.proofs.Numbered.{next_first}
 use Rattle.safety.proofs.Flight.{flies_map}
-use Rattle.safety.proofs.Invariant.{Logs, Past, RightTo, asked, logged, Core, logs_of}
+use Rattle.safety.proofs.Invariant.{Logs, Past, RightTo, asked, logged, heard, ended, Core, logs_of}
 use Rattle.safety.proofs.Growth.{right_grows, shard_grows, reply_grows}
 
 -- where a new write came from
@@ -32,6 +32,8 @@ pub source : (n m : ℕ) (E : ℕ → List Entry) (H : Past) (i : ℕ) (w : Writ
 source n m E H _ w _ (asked _ _ r) (from_client a h num) = first h (omega (arith, num)) r
 source n m E H _ w _ (logged i _ _ _ x z r) (from_board ind a h l) =
     let d : ind ≡ length (writes (E (suc i))) = omega (arith, l, length-map (E (suc i)) (λ (e : Entry). e.write)) in later i refl x (rw d at r)
+source n m E H i w _ (heard _ j ind rs _ _ _ _ _) new = elim new [ ]
+source n m E H i w _ (ended _ ind rs _ _ _ _ _) new = elim new [ ]
 
 module _ (L : Logs) (i : ℕ) (w : Write) where
   pub more : Logs

@@ -9,7 +9,7 @@ use native.Mathlib.Omega.{arith}
 use lib.Dec.{T, eqb}
 use lib.ListN.{length}
 use mir.Facts.{no_eqb}
-use Rattle.rules.specs.Lists.{if◌then◌else◌, at, snoc, changed}
+use Rattle.rules.specs.Lists.{If◌then◌else◌, at, snoc, changed}
 use Rattle.rules.specs.Answers.{done, breaks_rule, not_usable}
 use Rattle.rules.specs.Transactions.{Operation, Read}
 use Rattle.rules.specs.Frames.{Frame, response, decode}
@@ -83,7 +83,7 @@ pub data Happened (n : ℕ) (w : World rules) : World rules → Type 0 where
 
 -- ---- A refusal changes nothing
 
-not_done : {A : Type 0} (r : ℕ) (x y : A) → 1 ≤ r → (if eqb r done then x else y) ≡ y
+not_done : {A : Type 0} (r : ℕ) (x y : A) → 1 ≤ r → (If eqb r done then x else y) ≡ y
 not_done r x y l = if_no (eqb r done) x y (no_eqb {a = r} {b = done} (omega arith))
 
 board_refused : (n : ℕ) (w : World rules) (i r : ℕ) → after_board rules n w i (refuse r (w.boards i)) ≡ w

@@ -8,7 +8,7 @@ use native.Mathlib.Omega.{arith}
 use lib.Dec.{T, eqb, ltb→lt, nltb→le, eqb→eq, eqb_refl}
 use lib.ListN.{length, set}
 use mir.Facts.{eqb_no}
-use Rattle.rules.specs.Lists.{at, has, strike, is_empty, if◌then◌else◌}
+use Rattle.rules.specs.Lists.{at, has, strike, is_empty, If◌then◌else◌}
 use Rattle.rules.specs.Transactions.{Read}
 use Rattle.rules.specs.Frames.{Frame, exec_notif}
 use Rattle.rules.specs.Outcomes.{Outcome, taken, refuse}
@@ -51,15 +51,15 @@ pub record BoardLaw (b : Board) (f : Frame) (o : Outcome Board) : Type 0 where
   pub own : o.state.own ≡ b.own
 
 -- "When none remains: EXE"
-last_shard : (l : List ℕ) → T (is_exe (if is_empty l then EXE else PRE)) → length l ≡ 0
-unfolding if◌then◌else◌
+last_shard : (l : List ℕ) → T (is_exe (If is_empty l then EXE else PRE)) → length l ≡ 0
+unfolding If◌then◌else◌
 last_shard [] t = refl
 last_shard (j ∷ l) t = absurd t
 
 heard_remark : (j ind : ℕ) (rs : List Read) (e : Entry) → T (has j e.remaining) → Remark e ind (exec_notif j ind rs) (heard_from j rs e)
 unfolding heard_from
 heard_remark j ind rs e t =
-    by_notif j rs (if is_empty (strike j e.remaining) then EXE else PRE) t (λ u. let k = last_shard (strike j e.remaining) u in omega arith)
+    by_notif j rs (If is_empty (strike j e.remaining) then EXE else PRE) t (λ u. let k = last_shard (strike j e.remaining) u in omega arith)
 
 pub deed_law : (b : Board) (f : Frame) (o : Outcome Board) → 1 ≤ b.own → Deed b f o → BoardLaw b f o
 unfolding refuse taken serve_new append raise_floor settle holding
@@ -78,7 +78,7 @@ deed_law b _ _ lo (new f w ack c from) =
 deed_law b _ _ lo (heard j ind rs e a t) =
     let d : Entry = heard_from j rs e in
     let log : List Entry = set b.log ind d in
-    let fs : All (Sends b.n b.m b.own log) (if is_exe d.status then backward b ind d ∷ [] else []) =
+    let fs : All (Sends b.n b.m b.own log) (If is_exe d.status then backward b ind d ∷ [] else []) =
     by (All (Sends b.n b.m b.own log)) _ (λ u. (back_sends b log ind d lo (at_set_there b.log ind e d a) u, tt)) (λ u. tt) in
     record { moved = marked ind e d _ a (heard_remark j ind rs e t) fs; started = refl; n = refl; m = refl; own = refl }
 deed_law b _ _ lo (ended ind rs e a) =

@@ -71,15 +71,19 @@ finished_sound m G ind e here =
 
 pub remark_sound : (n m : ℕ) (L : Logs) (H : Past) (i ind : ℕ) (e d : Entry) (f : Frame) → Under (L n) (L i) → at (L i) ind ≡ some e.write → Sound m (L n) ind e
     → RightTo n m L H (board i) f → Remark e ind f d → Sound m (L n) ind d
-remark_sound n m L H _ ind e _ _ u a s (heard i _ _ _ x w r t y) (by_notif j rs status h last) =
-    let v : at (L i) ind ≡ some x = u ind x r in
-    let d : x ≡ e.write = cc in
-    heard_sound m (L n) ind e j status rs (rw d at r) h (λ z. let k = last z in omega arith) (rw d at y) s
-remark_sound n m L H _ ind e _ _ u a s (ended i _ _ x w b r y) (by_executed rs) =
-    let v : at (L i) ind ≡ some x = u ind x r in
-    let d : x ≡ e.write = cc in
-    let z : rs ≡ gather (placed 0 e.write.operations) (sees (L n) ind e.write) = rw d at y in
-    rw z (finished_sound m (L n) ind e (rw d at r))
+remark_sound n m L H i ind e d f u a s right how = go u a how right
+  where
+    -- how the entry changes is looked at first: the changed entry is made of it
+    go : {k : ℕ} {g : Frame} {after : Entry} → Under (L n) (L k) → at (L k) ind ≡ some e.write → Remark e ind g after → RightTo n m L H (board k) g → Sound m (L n) ind after
+    go u a (by_notif j rs status h last) (heard k _ _ _ x w r t y) =
+        let v : at (L k) ind ≡ some x = u ind x r in
+        let d : x ≡ e.write = cc in
+        heard_sound m (L n) ind e j status rs (rw d at r) h (λ z. let k = last z in omega arith) (rw d at y) s
+    go u a (by_executed rs) (ended k _ _ x w b r y) =
+        let v : at (L k) ind ≡ some x = u ind x r in
+        let d : x ≡ e.write = cc in
+        let z : rs ≡ gather (placed 0 e.write.operations) (sees (L n) ind e.write) = rw d at y in
+        rw z (finished_sound m (L n) ind e (rw d at r))
 
 remark_write : (e d : Entry) (ind : ℕ) (f : Frame) → Remark e ind f d → d.write ≡ e.write
 unfolding finished

@@ -9,7 +9,7 @@ use native.Mathlib.Omega.{arith}
 use lib.Dec.{T, eqb}
 use lib.ListN.{length}
 use mir.Facts.{eqb_yes}
-use Rattle.rules.specs.Lists.{if◌then◌else◌, at, snoc}
+use Rattle.rules.specs.Lists.{If◌then◌else◌, at, snoc}
 use Rattle.rules.specs.Transactions.{Operation, Write}
 use Rattle.rules.specs.Board.{next_number}
 use Rattle.rules.specs.Kept.{of_client, Counted}
@@ -20,8 +20,8 @@ use Rattle.safety.proofs.Lists.{Under, under_snoc}
 
 -- ---- A client's entries, when a log grows
 
-if_snoc : (b : Bool) (x w : Write) (l : List Write) → (if b then x ∷ snoc l w else snoc l w) ≡ snoc (if b then x ∷ l else l) w
-unfolding if◌then◌else◌
+if_snoc : (b : Bool) (x w : Write) (l : List Write) → (If b then x ∷ snoc l w else snoc l w) ≡ snoc (If b then x ∷ l else l) w
+unfolding If◌then◌else◌
 if_snoc true x w l = refl
 if_snoc false x w l = refl
 

@@ -10,7 +10,7 @@ use lib.Dec.{T, leb, ltb, eqb, eqb→eq, eqb_refl, nleb→lt, nltb→le, ltb→l
 use lib.ListN.{length, length-map}
 use native.Mathlib.Nat.{mod-lt}
 use mir.Facts.{T_not, yes_eqb, yes_leb, yes_ltb, eqb_no}
-use Rattle.rules.specs.Lists.{if◌then◌else◌, at, snoc, every, below}
+use Rattle.rules.specs.Lists.{If◌then◌else◌, at, snoc, every, below}
 use Rattle.rules.specs.Answers.{done, not_usable, below_floor, too_early, log_full, too_late}
 use Rattle.rules.specs.Transactions.{Operation, get, put, Write, Placed, Read, key_of, shard_of, touched, touches, placed, keep, on_shard, get_places, same_operation, same_operations, same_write, gather}
 use Rattle.rules.specs.Frames.{Frame, decode}
@@ -109,9 +109,9 @@ client_append : (c : ℕ) (s t : List Write) → of_client c (s ++ t) ≡ of_cli
 client_append c [] t = refl
 client_append c (w ∷ s) t = rw (client_append c s t) (go (eqb w.client c))
   where
-    go : (b : Bool) → (if b then w ∷ (of_client c s ++ of_client c t) else of_client c s ++ of_client c t) ≡ (if b then w ∷ of_client c s else of_client c s) ++ of_client c t
-    go true = unfold if◌then◌else◌ in refl
-    go false = unfold if◌then◌else◌ in refl
+    go : (b : Bool) → (If b then w ∷ (of_client c s ++ of_client c t) else of_client c s ++ of_client c t) ≡ (If b then w ∷ of_client c s else of_client c s) ++ of_client c t
+    go true = unfold If◌then◌else◌ in refl
+    go false = unfold If◌then◌else◌ in refl
 
 counted_next : (k : ℕ) (s : List Write) (w : Write) (t : List Write) → Counted k (s ++ (w ∷ t)) → w.number ≡ k + length s
 counted_next k [] w t h = h.0 ∙ omega arith

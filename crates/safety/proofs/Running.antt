@@ -11,7 +11,7 @@ use native.Mathlib.Omega.{arith}
 use lib.Dec.{T, eqb}
 use lib.ListN.{length}
 use mir.Facts.{T_not, not_T, yes_eqb, no_eqb}
-use Rattle.rules.specs.Lists.{if◌then◌else◌, at, changed}
+use Rattle.rules.specs.Lists.{If◌then◌else◌, at, changed}
 use Rattle.rules.specs.Transactions.{Operation, get, put, Write, Placed, Read, Cell, Store, key_of, shard_of, touched, touches, placed, keep, effect, store_after, value_of, note, reads_of, run_entry, store_after_log, gather_one, gather}
 use Rattle.rules.specs.Board.{one_more, touching}
 use Rattle.rules.proofs.Lists.{by, if_yes, if_no, at_some}
@@ -79,7 +79,7 @@ project_other t q (x ∷ xs) s k h =
 -- what the get at a place sees, when a whole list is run
 abbrev pub seen : ℕ → Store → List Placed → ℕ → Option ℕ
 seen q s [] r = none
-seen q s (x ∷ xs) r = if eqb x.place r then value_of (s (key_of x.operation)) else seen q (effect q s x.operation) xs r
+seen q s (x ∷ xs) r = If eqb x.place r then value_of (s (key_of x.operation)) else seen q (effect q s x.operation) xs r
 
 -- slots that agree at the gets give the same reads
 same_one : (x : Placed) (o : Operation) (f g : ℕ → Option ℕ) (rs ss : List Read) → ((k : ℕ) → o ≡ get k → f x.place ≡ g x.place) → rs ≡ ss
@@ -150,11 +150,11 @@ count_rises m j L c (suc q) h = go (last_or c q h) (count_rises m j L c q)
     go (inr a) before = rw a (omega arith)
 
 still : (m j q : ℕ) (s : Store) (o : Option Write) (c : ℕ) → one_more m j o c ≡ c → AgreeOn (own m j) s (run_entry q s o)
-unfolding if◌then◌else◌
+unfolding If◌then◌else◌
 still m j q s none c h k e = refl
 still m j q s (some x) c h k e = sym (untouched m j q 0 x.operations s (go (touches m j x.operations) h) k e)
   where
-    go : (b : Bool) → (if b then suc c else c) ≡ c → T (not b)
+    go : (b : Bool) → (If b then suc c else c) ≡ c → T (not b)
     go true z = absurd (omega arith)
     go false z = tt
 

@@ -63,10 +63,11 @@ module _ {n m : ℕ} {L : Logs} {H : Past} {shards : ℕ → Shard} {replies : L
         answers = c.answers;
       }
 
-  pub shard_good : (j : ℕ) (f : Frame) (s : Shard) (fs : List Frame) → Core n m L H shards replies sent → RightTo n m L H (shard j) f → Ran j (shards j) f s fs
+  -- the address apart from the shard group that ran: the frame says that they are one
+  ran_good : (i j : ℕ) (f : Frame) (s : Shard) (fs : List Frame) → Core n m L H shards replies sent → RightTo n m L H (shard i) f → Ran j (shards j) f s fs
       → T (every obeys fs) → Core n m L H (changed shards j s) replies (sent ++ posted n j fs)
-  shard_good j _ _ _ c r (stayed f) t = rw (changed_own shards j) (add_sent L [] c tt)
-  shard_good j _ _ _ c (job _ _ _ _ w a u y z) (went ind sn xs h) t =
+  ran_good _ j _ _ _ c r (stayed f) t = rw (changed_own shards j) (add_sent L [] c tt)
+  ran_good _ j _ _ _ c (job _ _ _ _ w a u y z) (went ind sn xs h) t =
       let d : (shards j).ssn ≡ touching m j (L n) ind = omega arith in
       let k = c.groups j in
       let e : S.run ind sn xs (shards j) ≡ S.run ind (suc (touching m j (L n) ind)) (on_shard m j w.operations) (shards j) = cc in
@@ -74,3 +75,7 @@ module _ {n m : ℕ} {L : Logs} {H : Past} {shards : ℕ → Shard} {replies : L
       add_sent L (posted n j (exec_notif j ind (reads_of ind (shards j).store xs) ∷ []))
       (put_shard j (S.run ind sn xs (shards j)) c (rw e (after m (L n) j (shards j) k ind w a u d)))
       (posted_fly (RightTo n m L H) n j (exec_notif j ind (reads_of ind (shards j).store xs) ∷ []) (heard n j ind _ w refl a u x, tt) t)
+
+  pub shard_good : (j : ℕ) (f : Frame) (s : Shard) (fs : List Frame) → Core n m L H shards replies sent → RightTo n m L H (shard j) f → Ran j (shards j) f s fs
+      → T (every obeys fs) → Core n m L H (changed shards j s) replies (sent ++ posted n j fs)
+  shard_good j = ran_good j j

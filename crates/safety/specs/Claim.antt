@@ -8,7 +8,7 @@
 -- Assumes nothing.
 use Rattle.std.specs.Prelude.{◌≡◌, List, [], ◌∷◌, ◌++◌, ℕ, suc, ◌≤◌, ◌<◌, T}
 use Rattle.std.proofs.Math.Option.{Option, none, some}
-use Rattle.rules.specs.Lists.{if◌then◌else◌, ◌=?◌, at}
+use Rattle.rules.specs.Lists.{If◌then◌else◌, ◌=?◌, at}
 use Rattle.rules.specs.Transactions.{Operation, Write, Store, shard_of, touches, store_after_log, reads_in_log}
 use Rattle.rules.specs.Board.{writes}
 use Rattle.rules.specs.Kept.{of_client}
@@ -37,7 +37,7 @@ through (some ind) = suc ind
 
 -- the keys of shard j in a store of all keys; no other key is present
 abbrev pub keys_of : ℕ → ℕ → Store → Store
-keys_of m j store = λ key. if shard_of m key =? j then store key else none
+keys_of m j store = λ key. If shard_of m key =? j then store key else none
 
 -- the entry at ind stands in the log and touches shard j
 pub record Touching (m j : ℕ) (log : List Write) (ind : ℕ) : Type 0 where

@@ -2,7 +2,7 @@
 -- Assumes nothing.
 use Rattle.std.specs.Prelude.{List, [], ◌∷◌, ◌++◌, map, ℕ, suc, pred, length}
 use Rattle.std.proofs.Math.Option.{Option, none, some}
-use Rattle.rules.specs.Lists.{if◌then◌else◌, ◌=?◌, at, snoc, changed}
+use Rattle.rules.specs.Lists.{If◌then◌else◌, ◌=?◌, at, snoc, changed}
 use Rattle.rules.specs.Answers.{done}
 use Rattle.rules.specs.Transactions.{Operation, Read}
 use Rattle.rules.specs.Frames.{Frame, submit, forward, shard_append, exec_notif, executed, response, encode}
@@ -159,7 +159,7 @@ module _ (a : Agents Outcome) where
         shards = w.shards;
         sessions = changed w.sessions c o.state;
         sent = w.sent ++ posted n c o.frames;
-        invoked = changed w.invoked c (if o.answer =? done then history else w.invoked c);
+        invoked = changed w.invoked c (If o.answer =? done then history else w.invoked c);
         replies = w.replies;
       }
 
@@ -172,7 +172,7 @@ module _ (a : Agents Outcome) where
         sessions = changed w.sessions c r.session;
         sent = w.sent;
         invoked = w.invoked;
-        replies = if r.answer =? done then snoc w.replies (record { client = c; number = r.number; reads = r.reads }) else w.replies;
+        replies = If r.answer =? done then snoc w.replies (record { client = c; number = r.number; reads = r.reads }) else w.replies;
       }
 
   -- some bytes arrive at an address

@@ -9,7 +9,7 @@ use lib.ListN.{length, get_or, take, drop}
 use lib.Seq.{take_all}
 use lib.Dec.{leb}
 use borrow.Author.Tests.{leb-true, leb-false}
-use Rattle.rules.specs.Lists.{if◌then◌else◌}
+use Rattle.rules.specs.Lists.{If◌then◌else◌}
 use Rattle.frames.proofs.Lists.{front_cons, front_end}
 use Rattle.entry.specs.Model.{in_mask}
 use Rattle.send.specs.Model.{count_in}
@@ -18,9 +18,9 @@ module _ (shard n : ℕ) (masks : List ℕ) (i count : ℕ) (e : count + count_i
   abbrev Passed : ℕ → Type 0
   Passed k = k + count_in shard (drop (i + 1) (take n masks)) ≡ count_in shard (take n masks)
 
-  pub count_turn : (inside : Bool) (k : ℕ) → i < n → i < length masks → inside ≡ in_mask (get_or masks i 0) shard → k ≡ count + (if inside then 1 else 0) → Passed k
+  pub count_turn : (inside : Bool) (k : ℕ) → i < n → i < length masks → inside ≡ in_mask (get_or masks i 0) shard → k ≡ count + (If inside then 1 else 0) → Passed k
   count_turn inside k h l t f =
-      let d : count_in shard (drop i (take n masks)) ≡ (if inside then 1 else 0) + count_in shard (drop (i + 1) (take n masks)) = rw (front_cons n masks i 0 h l, ← t) in
+      let d : count_in shard (drop i (take n masks)) ≡ (If inside then 1 else 0) + count_in shard (drop (i + 1) (take n masks)) = rw (front_cons n masks i 0 h l, ← t) in
       omega arith
 
   pub count_end : n ≤ i → count ≡ count_in shard (take n masks)

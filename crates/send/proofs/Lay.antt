@@ -8,7 +8,7 @@ use native.Mathlib.Omega.{arith}
 use lib.ListN.{length, take, drop, length-append, length-drop}
 use lib.Dec.{leb}
 use borrow.Author.Tests.{lt-ltb, le-ltb}
-use Rattle.rules.specs.Lists.{if◌then◌else◌}
+use Rattle.rules.specs.Lists.{If◌then◌else◌}
 use Rattle.frames.specs.declared.Item.{Item}
 use Rattle.frames.specs.declared.Frame.{Frame}
 use Rattle.frames.specs.Frames.{frame_bytes, written_of, laid_of, end_of, laid_behind}
@@ -45,7 +45,7 @@ module _ (left count : ℕ) (items : List Item) (m ind : ℕ) (masks : List ℕ)
     (el : cur ≡ laid (appends_to left count items m ind masks last) l)
     (shard : ℕ) (next : shard ≡ suc last) (going remains : Bool) (p : Part) (f : Frame) (sn : ℕ)
     (ep : p ≡ part_on m shard count items) (er : remains ≡ in_mask left shard) (eg : going ≡ (remains && leb 1 p.count))
-    (es : sn ≡ (if going then count_in shard (take (ind + 1) masks) else 0)) (e_f : f ≡ append_frame shard ind sn p) where
+    (es : sn ≡ (If going then count_in shard (take (ind + 1) masks) else 0)) (e_f : f ≡ append_frame shard ind sn p) where
   abbrev S : ℕ → List Frame
   S = appends_to left count items m ind masks
 
@@ -54,7 +54,7 @@ module _ (left count : ℕ) (items : List Item) (m ind : ℕ) (masks : List ℕ)
   turn_goes = eg ∙ rw (er, ep, next)
 
   turn_frame : going ≡ true → f ≡ append_at count items m ind masks (suc last)
-  unfolding append_at if◌then◌else◌
+  unfolding append_at If◌then◌else◌
   turn_frame h = e_f ∙ rw (es, h, ep, next)
 
   turn_few : f.count ≤ 4
@@ -63,12 +63,12 @@ module _ (left count : ℕ) (items : List Item) (m ind : ℕ) (masks : List ℕ)
 
   abbrev Turned : Bool → Type 0
   Turned t =
-      (frames + (if t then 1 else 0) ≡ length (S (suc last)))
-      × ((if t then end_of f bytes (length cur) else bytes) ≡ length (bytes_of (S (suc last))))
-      × ((if t then laid_behind f bytes cur else cur) ≡ laid (S (suc last)) l)
+      (frames + (If t then 1 else 0) ≡ length (S (suc last)))
+      × ((If t then end_of f bytes (length cur) else bytes) ≡ length (bytes_of (S (suc last))))
+      × ((If t then laid_behind f bytes cur else cur) ≡ laid (S (suc last)) l)
 
   turn_at_lem : (t : Bool) → t ≡ going → Turned t
-  unfolding laid if◌then◌else◌
+  unfolding laid If◌then◌else◌
   turn_at_lem true h =
       let g = sym turn_goes ∙ sym h in
       let b : List ℕ = bytes_of (S last) in
@@ -94,17 +94,17 @@ module _ (left count : ℕ) (items : List Item) (m ind : ℕ) (masks : List ℕ)
 
 module _ (e : Entry) (n m own floor ind : ℕ) (masks : List ℕ) (room : ℕ) where
   pub parts_none : room < 68 → send_parts e n m own floor ind masks room ≡ []
-  unfolding send_parts if◌then◌else◌
+  unfolding send_parts If◌then◌else◌
   parts_none h = rw (lt-ltb room 68 h)
 
   pub parts_back : 68 ≤ room → e.exe ≡ true → (f : Frame) → f ≡ backward_of e m own ind → send_parts e n m own floor ind masks room ≡ f ∷ []
-  unfolding send_parts onward_of if◌then◌else◌
+  unfolding send_parts onward_of If◌then◌else◌
   parts_back h t f q = simp (le-ltb room 68 h, t, q)
 
   pub parts_on : 68 ≤ room → e.exe ≡ false → own < n → (f : Frame) → f ≡ forward_frame e floor ind → send_parts e n m own floor ind masks room ≡ f ∷ []
-  unfolding send_parts onward_of if◌then◌else◌
+  unfolding send_parts onward_of If◌then◌else◌
   parts_on h t l f q = simp (le-ltb room 68 h, t, lt-ltb own n l, q)
 
   pub parts_tail : 68 ≤ room → e.exe ≡ false → n ≤ own → send_parts e n m own floor ind masks room ≡ appends_to e.remaining e.count e.items m ind masks 8
-  unfolding send_parts onward_of if◌then◌else◌
+  unfolding send_parts onward_of If◌then◌else◌
   parts_tail h t l = simp (le-ltb room 68 h, t, le-ltb own n l)

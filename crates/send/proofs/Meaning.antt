@@ -11,7 +11,7 @@ use lib.Dec.{T, ltb, eqb}
 use lib.ListN.{length, take, drop, length-map}
 use mir.Facts.{no_ltb}
 use borrow.Author.Tests.{le-leb}
-use Rattle.rules.specs.Lists.{if◌then◌else◌, has}
+use Rattle.rules.specs.Lists.{If◌then◌else◌, has}
 use Rattle.rules.specs.Transactions.{touches, on_shard}
 use Rattle.rules.specs.Frames as F
 use Rattle.rules.specs.Frames.{shard_append, executed, response}
@@ -57,24 +57,24 @@ module _ (m : ℕ) (lo : 1 ≤ m) (hi : m ≤ 8) where
       let first : k ≡ mask_of m x = cc in
       let rest : take (length es) masks ≡ map (mask_of m) es = cc in
       touching_cons m j (view_entry m x).write (writes (map (view_entry m) es)) q
-      ∙ (λ i. (if (touches_mask j x ∙ ap (λ (z : ℕ). in_mask z j) (sym first)) i then 1 else 0) + count_means j es masks q (omega arith) rest i)
+      ∙ (λ i. (If (touches_mask j x ∙ ap (λ (z : ℕ). in_mask z j) (sym first)) i then 1 else 0) + count_means j es masks q (omega arith) rest i)
 
 -- ---- The shards that remain, one by one
 
 -- those up to one
 abbrev set_to : ℕ → ℕ → List ℕ
 set_to mask zero = []
-set_to mask (suc last) = set_to mask last ++ (if in_mask mask (suc last) then suc last ∷ [] else [])
+set_to mask (suc last) = set_to mask last ++ (If in_mask mask (suc last) then suc last ∷ [] else [])
 
 set_joins : (mask k j : ℕ) → set_to mask j ++ set_from k (suc j) mask ≡ set_to mask (j + k)
 set_joins mask zero j = let e : j + 0 ≡ j = omega arith in rw e (append-nil (set_to mask j))
 set_joins mask (suc k) j =
     let e : j + suc k ≡ suc j + k = omega arith in
-    rw e (ap (λ (l : List ℕ). set_to mask j ++ l) (go (in_mask mask (suc j))) ∙ (sym (append_assoc (set_to mask j) (if in_mask mask (suc j) then suc j ∷ [] else []) (set_from k (suc (suc j)) mask)) ∙ set_joins mask k (suc j)))
+    rw e (ap (λ (l : List ℕ). set_to mask j ++ l) (go (in_mask mask (suc j))) ∙ (sym (append_assoc (set_to mask j) (If in_mask mask (suc j) then suc j ∷ [] else []) (set_from k (suc (suc j)) mask)) ∙ set_joins mask k (suc j)))
   where
-    go : (t : Bool) → (if t then suc j ∷ set_from k (suc (suc j)) mask else set_from k (suc (suc j)) mask) ≡ (if t then suc j ∷ [] else []) ++ set_from k (suc (suc j)) mask
-    go true = unfold if◌then◌else◌ in refl
-    go false = unfold if◌then◌else◌ in refl
+    go : (t : Bool) → (If t then suc j ∷ set_from k (suc (suc j)) mask else set_from k (suc (suc j)) mask) ≡ (If t then suc j ∷ [] else []) ++ set_from k (suc (suc j)) mask
+    go true = unfold If◌then◌else◌ in refl
+    go false = unfold If◌then◌else◌ in refl
 
 set_to_lem : (mask : ℕ) → set_of mask ≡ set_to mask 8
 unfolding set_of
@@ -103,11 +103,11 @@ map-append f (x ∷ xs) ys = ap (λ l. f x ∷ l) (map-append f xs ys)
 module _ (e : Entry) (m ind : ℕ) (lo : 1 ≤ m) (h : EntryHeld m e) where
   back_at : (t : Bool)
       → M.Sends
-      ((if t then record { head = Response e.client e.number; count = (reads_held m e).count; items = (reads_held m e).items }
+      ((If t then record { head = Response e.client e.number; count = (reads_held m e).count; items = (reads_held m e).items }
       else record { head = Executed ind; count = (reads_held m e).count; items = (reads_held m e).items })
       ∷ [])
-      ((if t then response (view_entry m e).write.client (view_entry m e).write.number (view_entry m e).reads else executed ind (view_entry m e).reads) ∷ [])
-  unfolding if◌then◌else◌ meaning view_entry write_of
+      ((If t then response (view_entry m e).write.client (view_entry m e).write.number (view_entry m e).reads else executed ind (view_entry m e).reads) ∷ [])
+  unfolding If◌then◌else◌ meaning view_entry write_of
   back_at true = ((held_right m e lo h, ap (λ rs. some (response e.client e.number rs)) (held_reads m e lo h)), tt)
   back_at false = ((held_right m e lo h, ap (λ rs. some (executed ind rs)) (held_reads m e lo h)), tt)
 
@@ -172,25 +172,25 @@ module _ (b : B.Board) (es : List Entry) (e : Entry) (n m own floor ind : ℕ) (
   unfolding appends_to
   appends_mean zero = tt
   appends_mean (suc last) =
-      rw (map-append (shard_append_of b ind view.write) (set_to e.remaining last) (if in_mask e.remaining (suc last) then suc last ∷ [] else []))
-      (sends_append (S last) (if goes e.remaining e.count e.items m (suc last) then append_at e.count e.items m ind masks (suc last) ∷ [] else [])
-      (map (shard_append_of b ind view.write) (set_to e.remaining last)) (map (shard_append_of b ind view.write) (if in_mask e.remaining (suc last) then suc last ∷ [] else []))
+      rw (map-append (shard_append_of b ind view.write) (set_to e.remaining last) (If in_mask e.remaining (suc last) then suc last ∷ [] else []))
+      (sends_append (S last) (If goes e.remaining e.count e.items m (suc last) then append_at e.count e.items m ind masks (suc last) ∷ [] else [])
+      (map (shard_append_of b ind view.write) (set_to e.remaining last)) (map (shard_append_of b ind view.write) (If in_mask e.remaining (suc last) then suc last ∷ [] else []))
       (appends_mean last) (one (suc last) (in_mask e.remaining (suc last)) refl))
     where
       one : (j : ℕ) (t : Bool) → t ≡ in_mask e.remaining j
-          → M.Sends (if goes e.remaining e.count e.items m j then append_at e.count e.items m ind masks j ∷ [] else [])
-          (map (shard_append_of b ind view.write) (if t then j ∷ [] else []))
-      one j true q = rw (remains_goes j (sym q)) (unfold if◌then◌else◌ in (append_means j))
-      one j false q = rw (struck_stays j (sym q)) (unfold if◌then◌else◌ in tt)
+          → M.Sends (If goes e.remaining e.count e.items m j then append_at e.count e.items m ind masks j ∷ [] else [])
+          (map (shard_append_of b ind view.write) (If t then j ∷ [] else []))
+      one j true q = rw (remains_goes j (sym q)) (unfold If◌then◌else◌ in (append_means j))
+      one j false q = rw (struck_stays j (sym q)) (unfold If◌then◌else◌ in tt)
 
   remaining_is : view.remaining ≡ set_to e.remaining 8
   unfolding view_entry
   remaining_is = set_to_lem e.remaining
 
   onward_at : (t u : Bool)
-      → M.Sends (if t then backward_of e m own ind ∷ [] else if u then forward_frame e floor ind ∷ [] else S 8)
-      (if t then backward b ind view ∷ [] else if u then forward_of b ind view.write ∷ [] else map (shard_append_of b ind view.write) view.remaining)
-  unfolding if◌then◌else◌
+      → M.Sends (If t then backward_of e m own ind ∷ [] else If u then forward_frame e floor ind ∷ [] else S 8)
+      (If t then backward b ind view ∷ [] else If u then forward_of b ind view.write ∷ [] else map (shard_append_of b ind view.write) view.remaining)
+  unfolding If◌then◌else◌
   onward_at true u = back_means e m ind p.low p.held b own p.own_is
   onward_at false true = forward_means
   onward_at false false = rw remaining_is (appends_mean 8)
@@ -201,8 +201,8 @@ module _ (b : B.Board) (es : List Entry) (e : Entry) (n m own floor ind : ℕ) (
   onward_means =
       subst (M.Sends (onward_of e n m own floor ind masks))
       (λ i.
-      if sym (exe_view m e) i then backward b ind view ∷ [] else
-      if ltb (sym p.own_is i) (sym p.n_is i) then forward_of b ind view.write ∷ [] else
+      If sym (exe_view m e) i then backward b ind view ∷ [] else
+      If ltb (sym p.own_is i) (sym p.n_is i) then forward_of b ind view.write ∷ [] else
       map (shard_append_of b ind view.write) view.remaining)
       (onward_at e.exe (ltb own n))
 
@@ -219,7 +219,7 @@ module _ (b : B.Board) (es : List Entry) (e : Entry) (n m own floor ind : ℕ) (
       → Means (onward b ind view) before after r
   unfolding send_parts laid
   send_means before after r room s =
-      let all : (if ltb (length before) 68 then [] else onward_of e n m own floor ind masks) ≡ onward_of e n m own floor ind masks =
+      let all : (If ltb (length before) 68 then [] else onward_of e n m own floor ind masks) ≡ onward_of e n m own floor ind masks =
       if_no (ltb (length before) 68) [] (onward_of e n m own floor ind masks) (no_ltb {a = length before} {b = 68} room) in
       let t : Sends (onward_of e n m own floor ind masks) before after r = subst (λ (fs : List Frame). Sends fs before after r) all s in
       record {

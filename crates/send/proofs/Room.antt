@@ -10,7 +10,7 @@ use native.Mathlib.Omega.{arith}
 use lib.ListN.{length, take, length-append}
 use lib.Dec.{leb, ltb, eqb}
 use borrow.Author.Tests.{leb-true, ltb-true, ltb-false, eqb-true, eqb-false}
-use Rattle.rules.specs.Lists.{if◌then◌else◌}
+use Rattle.rules.specs.Lists.{If◌then◌else◌}
 use Rattle.rules.proofs.Lists.{by}
 use Rattle.frames.specs.declared.Item.{Item}
 use Rattle.frames.specs.declared.Shape.{Shape}
@@ -52,8 +52,8 @@ frame_most f =
 -- a shard is among the first ones and the next, if it is among the first ones or is the next
 share : (s last : ℕ) (y : Item) (ks ls ns : List Item) → length ks ≡ length ls + length ns
     → (a : Bool) → a ≡ ltb s (suc (suc last)) → (b : Bool) → b ≡ ltb s (suc last) → (c : Bool) → c ≡ eqb s (suc last)
-    → length (if a then y ∷ ks else ks) ≡ length (if b then y ∷ ls else ls) + length (if c then y ∷ ns else ns)
-unfolding if◌then◌else◌
+    → length (If a then y ∷ ks else ks) ≡ length (If b then y ∷ ls else ls) + length (If c then y ∷ ns else ns)
+unfolding If◌then◌else◌
 share s last y ks ls ns h true p true q true r = let u = ltb-true s (suc last) (sym q) in let v = eqb-true s (suc last) (sym r) in absurd (omega arith)
 share s last y ks ls ns h true p true q false r = omega arith
 share s last y ks ls ns h true p false q true r = omega arith
@@ -102,11 +102,11 @@ module _ (left count : ℕ) (items : List Item) (m ind : ℕ) (masks : List ℕ)
   append_most shard = omega (arith, frame_most (append_at count items m ind masks shard))
 
   pub to_yes : (last : ℕ) → goes left count items m (suc last) ≡ true → S (suc last) ≡ S last ++ (append_at count items m ind masks (suc last) ∷ [])
-  unfolding appends_to if◌then◌else◌
+  unfolding appends_to If◌then◌else◌
   to_yes last h = rw h
 
   pub to_no : (last : ℕ) → goes left count items m (suc last) ≡ false → S (suc last) ≡ S last
-  unfolding appends_to if◌then◌else◌
+  unfolding appends_to If◌then◌else◌
   to_no last h = rw h (append-nil (S last))
 
   pub bytes_yes : (last : ℕ) → goes left count items m (suc last) ≡ true

@@ -2,7 +2,7 @@
 -- What they mean in the rules' words is in View.
 -- Assumes nothing.
 use Rattle.std.specs.Prelude.{◌≡◌, Bool, ◌&&◌, List, [], ◌∷◌, ◌++◌, ℕ, zero, suc, ◌+◌, min, length, take, drop}
-use Rattle.rules.specs.Lists.{if◌then◌else◌, ◌<?◌, ◌≤?◌, ◌=?◌}
+use Rattle.rules.specs.Lists.{If◌then◌else◌, ◌<?◌, ◌≤?◌, ◌=?◌}
 use Rattle.rules.specs.Outcomes.{least_out}
 use Rattle.frames.specs.declared.Item.{Item}
 use Rattle.frames.specs.declared.Frame.{Frame}
@@ -31,16 +31,16 @@ pub record Sends (fs : List Frame) (before after : List ℕ) (r : Sent) : Type 0
 
 -- one frame more was written behind what s counts, or nothing
 pub record Goes (going : Bool) (f : Frame) (s : Sent) (before after : List ℕ) (r : Sent) : Type 0 where
-  pub frames : r.frames ≡ s.frames + (if going then 1 else 0)
-  pub bytes : r.bytes ≡ (if going then end_of f s.bytes (length before) else s.bytes)
-  pub out : after ≡ (if going then laid_behind f s.bytes before else before)
+  pub frames : r.frames ≡ s.frames + (If going then 1 else 0)
+  pub bytes : r.bytes ≡ (If going then end_of f s.bytes (length before) else s.bytes)
+  pub out : after ≡ (If going then laid_behind f s.bytes before else before)
 
 -- ---- The frames
 
 -- how many of some entries, each given by the set of shards that it touches, touch a shard
 abbrev pub count_in : ℕ → List ℕ → ℕ
 count_in shard [] = 0
-count_in shard (mask ∷ masks) = (if in_mask mask shard then 1 else 0) + count_in shard masks
+count_in shard (mask ∷ masks) = (If in_mask mask shard then 1 else 0) + count_in shard masks
 
 -- no frame has more than four items
 unfoldable pub forward_frame : Entry → ℕ → ℕ → Frame
@@ -49,7 +49,7 @@ forward_frame e floor ind =
 
 unfoldable pub backward_of : Entry → ℕ → ℕ → ℕ → Frame
 backward_of e m own ind =
-    if own =? 1 then record { head = Response e.client e.number; count = (reads_held m e).count; items = (reads_held m e).items } else
+    If own =? 1 then record { head = Response e.client e.number; count = (reads_held m e).count; items = (reads_held m e).items } else
     record { head = Executed ind; count = (reads_held m e).count; items = (reads_held m e).items }
 
 unfoldable pub append_frame : ℕ → ℕ → ℕ → Part → Frame
@@ -67,15 +67,15 @@ unfoldable pub appends_to : ℕ → ℕ → List Item → ℕ → ℕ → List �
 appends_to left count items m ind masks zero = []
 appends_to left count items m ind masks (suc last) =
     appends_to left count items m ind masks last
-    ++ (if goes left count items m (suc last) then append_at count items m ind masks (suc last) ∷ [] else [])
+    ++ (If goes left count items m (suc last) then append_at count items m ind masks (suc last) ∷ [] else [])
 
 -- "if EXE, send Executed ..; else if i < n, send Forward; else send ShardAppend for each remaining shard, rising"
 unfoldable pub onward_of : Entry → ℕ → ℕ → ℕ → ℕ → ℕ → List ℕ → List Frame
 onward_of e n m own floor ind masks =
-    if e.exe then backward_of e m own ind ∷ [] else
-    if own <? n then forward_frame e floor ind ∷ [] else
+    If e.exe then backward_of e m own ind ∷ [] else
+    If own <? n then forward_frame e floor ind ∷ [] else
     appends_to e.remaining e.count e.items m ind masks 8
 
 -- without room for the longest nothing is sent
 unfoldable pub send_parts : Entry → ℕ → ℕ → ℕ → ℕ → ℕ → List ℕ → ℕ → List Frame
-send_parts e n m own floor ind masks room = if room <? least_out then [] else onward_of e n m own floor ind masks
+send_parts e n m own floor ind masks room = If room <? least_out then [] else onward_of e n m own floor ind masks

@@ -4,7 +4,7 @@
 #![tactic(auto)]
 
 ghost use Rattle.std.specs.Prelude.{◌≡◌, ◌+◌, ◌≤◌, min, length, take};
-ghost use Rattle.rules.specs.Lists.{if◌then◌else◌};
+ghost use Rattle.rules.specs.Lists.{If◌then◌else◌};
 ghost use Rattle.send.specs.Model.{Sends, Goes, count_in, backward_of, forward_frame, append_frame, appends_to, send_parts};
 
 use entry::{Entry, Part};
@@ -134,7 +134,7 @@ fn more(s: Sent, goes: bool, f: Frame, out: &mut [u8]) -> Sent
 
 // sn is counted only where it is sent.
 fn sn_of(goes: bool, masks: [u8; 256], log_number: LogNumber, shard: u8) -> u16
-    ensures { result ≡ (if goes then count_in shard (take (log_number + 1) masks) else 0) }
+    ensures { result ≡ (If goes then count_in shard (take (log_number + 1) masks) else 0) }
 {
     if goes {
         count_touching(masks, log_number, shard)

@@ -10,7 +10,7 @@ use native.Mathlib.Omega.{arith}
 use borrow.Author.Tests.{lt-ltb, le-ltb}
 use lib.Dec.{T, leb, eqb, leb→le, le→leb, eqb→eq, T_not, not_T}
 use lib.ListN.{length, get_or}
-use Rattle.rules.specs.Lists.{if◌then◌else◌, within, every}
+use Rattle.rules.specs.Lists.{If◌then◌else◌, within, every}
 use Rattle.rules.specs.Transactions.{Operation, get, put}
 use Rattle.rules.specs.Frames.{ok_value, ok_operation, ok_operations}
 use Rattle.rules.specs.Session as R
@@ -44,7 +44,7 @@ four_kept count (a ∷ b ∷ c ∷ d ∷ x ∷ rest) e = absurd (omega arith)
 
 -- behind the list's end nothing is kept
 kept_behind : (place count : ℕ) (list : List Asked) → count ≤ place → kept_from place count list ≡ filled (length list) []
-unfolding kept_from kept_item if◌then◌else◌
+unfolding kept_from kept_item If◌then◌else◌
 kept_behind place count [] h = refl
 kept_behind place count (a ∷ rest) h = rw (le-ltb place count h, kept_behind (suc place) count rest (omega arith))
 
@@ -54,7 +54,7 @@ abbrev as_item : ℕ → Asked → Item
 as_item place a = record { place = place; code = a.code; key = a.key; value = a.value }
 
 kept_here : (a : Asked) (place more : ℕ) → kept_item a place (place + suc more) ≡ as_item place a
-unfolding kept_item if◌then◌else◌
+unfolding kept_item If◌then◌else◌
 kept_here a place more = rw (lt-ltb place (place + suc more) (omega arith))
 
 -- an item that is right is the operation that is meant
@@ -65,7 +65,7 @@ record Meant (place : ℕ) (a : Asked) : Type 0 where
   ok : T (ok_operation operation)
 
 right_meant : (place : ℕ) (a : Asked) → a.key < 256 → a.value < 4294967296 → T (ok_item (as_item place a)) → Meant place a
-unfolding R.meant if◌then◌else◌
+unfolding R.meant If◌then◌else◌
 right_meant place a k v t =
     let r = item_rules (as_item place a) t in
     either (eqb a.code 0)
@@ -85,7 +85,7 @@ right_meant place a k v t =
 
 -- and what is meant is right
 meant_right : (place : ℕ) (a : Asked) (o : Operation) → place ≤ 3 → R.meant (view_asked a) ≡ some o → T (ok_item (as_item place a))
-unfolding R.meant if◌then◌else◌
+unfolding R.meant If◌then◌else◌
 meant_right place a o p e =
     either (eqb a.code 0 && eqb a.value 0)
     (λ z.

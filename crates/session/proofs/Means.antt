@@ -10,7 +10,7 @@ use native.Mathlib.Omega.{arith}
 use borrow.Author.Tests.{lt-ltb, le-ltb}
 use lib.Dec.{T, leb, ltb, eqb, leb→le, nleb→lt, nltb→le}
 use lib.ListN.{length, drop}
-use Rattle.rules.specs.Lists.{if◌then◌else◌, every}
+use Rattle.rules.specs.Lists.{If◌then◌else◌, every}
 use Rattle.rules.specs.Answers.{done, breaks_rule, too_late, not_usable}
 use Rattle.rules.specs.Transactions.{Operation}
 use Rattle.rules.specs.Frames as F
@@ -56,7 +56,7 @@ start_as client own started answer few code rule =
     })
 
 pub start_means : (client : ℕ) → StartMeans client (started_of client)
-unfolding started_of R.start taken refuse if◌then◌else◌
+unfolding started_of R.start taken refuse If◌then◌else◌
 start_means client =
     either (leb client 15)
     (λ t.
@@ -97,7 +97,7 @@ refusal_means s answer = refl
 -- a call of the code means an outcome of the rules, frames and all: what is sent is the record of the frame that the rules send
 pub record CallMeans (out n : ℕ) (c : Call) (o : Outcome R.Session) : Type 0 where
   pub means : view_call c ≡ o
-  pub number : c.number ≡ (if eqb o.answer done then n else 0)
+  pub number : c.number ≡ (If eqb o.answer done then n else 0)
   pub held : Held c.session
   pub sends : Sends out c.frame
 
@@ -132,27 +132,27 @@ module _ (s : Session) (os : List Operation) where
   call = taking s (length os) (filled 4 (operation_items 0 os)) (W.invoked_of s.window (length os) (filled 4 (operation_items 0 os)))
 
   call_used_up : T (leb 65535 s.window.next) → call ≡ refusal s 10
-  unfolding call taking W.invoked_of if◌then◌else◌
+  unfolding call taking W.invoked_of If◌then◌else◌
   call_used_up t = rw (T_true (leb 65535 s.window.next) t)
 
   module _ (few : T (not (leb 65535 s.window.next))) where
     call_full : T (leb (W.smallest_of s.window + 8) s.window.next) → call ≡ refusal s 9
-    unfolding call taking W.invoked_of if◌then◌else◌
+    unfolding call taking W.invoked_of If◌then◌else◌
     call_full t = rw (T_false (leb 65535 s.window.next) few, T_true (leb (W.smallest_of s.window + 8) s.window.next) t)
 
     call_goes : T (not (leb (W.smallest_of s.window + 8) s.window.next)) → call ≡ sending (after s os) s.window.next (length os) (filled 4 (operation_items 0 os))
-    unfolding call taking W.invoked_of slot_for if◌then◌else◌
+    unfolding call taking W.invoked_of slot_for If◌then◌else◌
     call_goes t = rw (T_false (leb 65535 s.window.next) few, T_false (leb (W.smallest_of s.window + 8) s.window.next) t)
 
 -- the rules' invocation, by the same tests
 module _ (s : Session) (os : List Operation) (h : Held s) (ok : T (ok_operations os)) where
   step_used_up : T (leb 65535 s.window.next) → R.invoke_step (view_session s) (some os) ≡ refuse 10 (view_session s)
-  unfolding R.invoke_step view_session view_window if◌then◌else◌
+  unfolding R.invoke_step view_session view_window If◌then◌else◌
   step_used_up t = rw (T_true (ok_operations os) ok, T_true (leb 65535 s.window.next) t)
 
   module _ (few : T (not (leb 65535 s.window.next))) where
     step_full : T (leb (W.smallest_of s.window + 8) s.window.next) → R.invoke_step (view_session s) (some os) ≡ refuse 9 (view_session s)
-    unfolding R.invoke_step view_session view_window if◌then◌else◌
+    unfolding R.invoke_step view_session view_window If◌then◌else◌
     step_full t =
         rw (T_true (ok_operations os) ok, T_false (leb 65535 s.window.next) few, smallest_means s.window, T_true (leb (W.smallest_of s.window + 8) s.window.next) t)
 
@@ -160,7 +160,7 @@ module _ (s : Session) (os : List Operation) (h : Held s) (ok : T (ok_operations
         R.invoke_step (view_session s) (some os)
         ≡ taken (R.with_window (R.invoked os (view_session s).window) (view_session s))
         (R.submit_of (R.with_window (R.invoked os (view_session s).window) (view_session s)) s.window.next os ∷ [])
-    unfolding R.invoke_step view_session view_window if◌then◌else◌
+    unfolding R.invoke_step view_session view_window If◌then◌else◌
     step_went t =
         rw (T_true (ok_operations os) ok, T_false (leb 65535 s.window.next) few, smallest_means s.window, T_false (leb (W.smallest_of s.window + 8) s.window.next) t)
 
@@ -212,7 +212,7 @@ module _ (s : Session) (ops : Operations) (out : ℕ) (h : Held s) (z : Sized op
       either (unusable s.started out)
       (λ t. refused_means s h out s.window.next 11 tt _ _ (if_yes (unusable s.started out) _ _ t) (if_yes (unusable s.started out) _ _ t))
       (λ u.
-      let code = if_no (unusable s.started out) (refusal s not_usable) (if not (ok_asked ops) then refusal s breaks_rule else taking s ops.count (items_of ops) window) u in
+      let code = if_no (unusable s.started out) (refusal s not_usable) (If not (ok_asked ops) then refusal s breaks_rule else taking s ops.count (items_of ops) window) u in
       let rule = if_no (unusable s.started out) (refuse not_usable (view_session s)) (R.invoke_step (view_session s) (R.all_meant (asked_of ops))) u in
       either (ok_asked ops)
       (λ t.
@@ -231,7 +231,7 @@ module _ (s : Session) (ops : Operations) (out : ℕ) (h : Held s) (z : Sized op
 
 -- what is sent again of a slot
 abbrev again : Session → ℕ → Slot → Call
-again s number slot = if ltb slot.count 1 then refusal s too_late else sending s number slot.count slot.items
+again s number slot = If ltb slot.count 1 then refusal s too_late else sending s number slot.count slot.items
 
 -- a slot with operations is not empty
 pub slot_count : (number : ℕ) (os : List Operation) → T (ok_operations os) → ltb (slot_for number os).count 1 ≡ false
@@ -240,11 +240,11 @@ slot_count number os ok = le-ltb (length os) 1 (some_operations os ok).0
 
 again_sends : (s : Session) (number : ℕ) (os : List Operation) → T (ok_operations os) →
     again s number (slot_for number os) ≡ sending s number (length os) (filled 4 (operation_items 0 os))
-unfolding slot_for if◌then◌else◌
+unfolding slot_for If◌then◌else◌
 again_sends s number os ok = rw (slot_count number os ok)
 
 again_none : (s : Session) (number : ℕ) → again s number W.free ≡ refusal s 7
-unfolding if◌then◌else◌
+unfolding If◌then◌else◌
 again_none s number = refl
 
 rule_sends : (s : R.Session) (number : ℕ) (os : List Operation) → R.send_again s number (some os) ≡ taken s (R.submit_of s number os ∷ [])
@@ -294,16 +294,16 @@ alone : (g : F.Frame) → sent_bytes (g ∷ []) ≡ encode g
 alone g = append-nil (encode g)
 
 given_none : (s : Session) (answer number n : ℕ) (out : List ℕ) (o : Outcome R.Session) → view_call (record { answer = answer; session = s; number = number; frame = none }) ≡ o →
-    number ≡ (if eqb o.answer done then n else 0) → Held s →
+    number ≡ (If eqb o.answer done then n else 0) → Held s →
     SubmitMeans o n out (record { session = s; sent = record { answer = answer; number = number; frames = 0; bytes = 0 } }) out
 unfolding view_call
 given_none s answer number n out o e k h =
     let q : o ≡ record { answer = answer; state = view_session s; frames = [] } = sym e in
-    let named : number ≡ (if eqb answer done then n else 0) = rw q at k in
+    let named : number ≡ (If eqb answer done then n else 0) = rw q at k in
     rw q (record { held = h; answer = refl; state = refl; number = named; frames = refl; bytes = refl; written = refl })
 
 given_some : (s : Session) (answer number n : ℕ) (f : Frame) (out : List ℕ) (o : Outcome R.Session) →
-    view_call (record { answer = answer; session = s; number = number; frame = some f }) ≡ o → number ≡ (if eqb o.answer done then n else 0) →
+    view_call (record { answer = answer; session = s; number = number; frame = some f }) ≡ o → number ≡ (If eqb o.answer done then n else 0) →
     Held s → SendsOne (length out) f → length (sent_bytes o.frames) ≤ 68 →
     SubmitMeans o n out (record { session = s; sent = record { answer = answer; number = number; frames = 1; bytes = written_of f (length out) } }) (laid_of f out)
 unfolding view_call
@@ -312,7 +312,7 @@ given_some s answer number n f out o e k h x few =
     let is : meaning f ≡ some g = ap meaning x.is ∙ (recorded g x.rules).means in
     let q : o ≡ record { answer = answer; state = view_session s; frames = g ∷ [] } = sym e ∙ (λ i. record { answer = answer; state = view_session s; frames = view_meaning (is i) }) in
     let small : length (encode g) ≤ 68 = rw (← alone g) (rw q at few) in
-    let named : number ≡ (if eqb answer done then n else 0) = rw q at k in
+    let named : number ≡ (If eqb answer done then n else 0) = rw q at k in
     rw q
     (record {
       held = h;

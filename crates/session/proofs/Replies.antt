@@ -9,7 +9,7 @@ use Prim.Native.Nat.{ℕ, ◌≤◌}
 use native.Mathlib.Omega.{arith}
 use lib.Dec.{T, eqb, ltb}
 use lib.ListN.{length}
-use Rattle.rules.specs.Lists.{if◌then◌else◌}
+use Rattle.rules.specs.Lists.{If◌then◌else◌}
 use Rattle.rules.specs.Answers.{done, too_late, does_not_fit}
 use Rattle.rules.specs.Transactions.{Operation, placed}
 use Rattle.rules.specs.Frames as F
@@ -49,15 +49,15 @@ module _ (s : Session) (number count : ℕ) (reads : List Item) where
   -- what is made of the slot of a number, and of the operations that the rules keep
   abbrev of_slot : Slot → Responded
   of_slot slot =
-      if ltb slot.count 1 then declined_of s too_late else
-      if not (fits_of slot.count slot.items count reads) then declined_of s does_not_fit else
+      If ltb slot.count 1 then declined_of s too_late else
+      If not (fits_of slot.count slot.items count reads) then declined_of s does_not_fit else
       record { session = with_window (W.answered_of s.window number) s; reply = record { answer = done; number = number; count = count; reads = reads } }
 
   abbrev of_rules : Option (List Operation) → R.Reply
   of_rules o = R.hand_over (view_session s) number (reads_of count reads) o
 
   none_slot : of_slot W.free ≡ declined_of s 7
-  unfolding if◌then◌else◌
+  unfolding If◌then◌else◌
   none_slot = refl
 
   none_rules : of_rules none ≡ R.decline 7 (view_session s)
@@ -84,7 +84,7 @@ module _ (s : Session) (number count : ℕ) (reads : List Item) where
         }
 
     over_means : Hears (of_slot (slot_for number os)) (of_rules (some os))
-    unfolding R.hand_over if◌then◌else◌
+    unfolding R.hand_over If◌then◌else◌
     over_means =
         rw (slot_count number os ok, test)
         (either (fits (reads_of count reads) (placed 0 os)) (λ t. rw (T_true (fits (reads_of count reads) (placed 0 os)) t) handed)
@@ -98,7 +98,7 @@ module _ (s : Session) (number count : ℕ) (reads : List Item) where
 -- "client isn't its own (kind 6)"
 heard_means : (s : Session) → Held s → (client number count : ℕ) (reads : List Item) → count ≤ length reads →
     Hears (heard_of s client number count reads) (R.frame_step (view_session s) (F.response client number (reads_of count reads)))
-unfolding heard_of R.frame_step view_session if◌then◌else◌
+unfolding heard_of R.frame_step view_session If◌then◌else◌
 heard_means s h client number count reads few =
     either (eqb client s.client)
     (λ t. rw (T_true (eqb client s.client) t) (slot_means s number count reads h few))

@@ -7,7 +7,7 @@ use Prim.Native.Nat.{ℕ, ◌≤◌}
 use native.Mathlib.Omega.{arith}
 use lib.Dec.{ltb}
 use borrow.Author.Tests.{lt-ltb, le-ltb}
-use Rattle.rules.specs.Lists.{if◌then◌else◌}
+use Rattle.rules.specs.Lists.{If◌then◌else◌}
 use Rattle.rules.specs.Answers.{not_usable}
 use Rattle.rules.specs.Outcomes.{unusable}
 use Rattle.rules.proofs.Lists.{by}
@@ -21,7 +21,7 @@ use Rattle.session.specs.Model.{started_of, sending, retrying}
 
 -- a session of client 16
 pub no_client_16 : (client : ℕ) → 16 ≤ client → ((started_of client).session.started ≡ false) × ((started_of client).answer ≡ not_usable)
-unfolding started_of if◌then◌else◌
+unfolding started_of If◌then◌else◌
 no_client_16 client h = rw (lt-ltb 15 client (omega arith)) (refl, refl)
 
 -- a number outstanding at the start
@@ -35,5 +35,5 @@ none_outstanding client number =
 -- other operations than the kept ones
 pub retry_kept : (s : Session) (number room : ℕ) → unusable s.started room ≡ false → 1 ≤ (W.kept_of s.window number).count
     → retrying s number room ≡ sending s number (W.kept_of s.window number).count (W.kept_of s.window number).items
-unfolding retrying if◌then◌else◌
+unfolding retrying If◌then◌else◌
 retry_kept s number room h g = rw (h, le-ltb (W.kept_of s.window number).count 1 g)

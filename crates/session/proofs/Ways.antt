@@ -9,7 +9,7 @@ use native.Mathlib.Omega.{arith}
 use types.Run.{OneOf}
 use denote.Enum.Declared.{tag_of}
 use lib.ListN.{length}
-use Rattle.rules.specs.Lists.{if◌then◌else◌}
+use Rattle.rules.specs.Lists.{If◌then◌else◌}
 use Rattle.frames.specs.declared.Item.{Item}
 use Rattle.frames.specs.declared.Head.{Head}
 use Rattle.frames.specs.declared.Head.TheVariants.{Bad, Submit, Forward, ShardAppend, ExecNotif, Executed, Response}
@@ -59,50 +59,50 @@ module _ (s : Session) (out : List ℕ) (c : Call) where
 
 module _ (s : Session) (ops : Operations) (out : ℕ) where
   pub invoke_not_started : not s.started ≡ true → invoking s ops out ≡ refusal s 11
-  unfolding invoking if◌then◌else◌
+  unfolding invoking If◌then◌else◌
   invoke_not_started n = rw n
 
   pub invoke_small : not s.started ≡ false → out < 68 → invoking s ops out ≡ refusal s 11
-  unfolding invoking if◌then◌else◌
+  unfolding invoking If◌then◌else◌
   invoke_small n h = rw (n, lt-ltb out 68 h)
 
   module _ (n : not s.started ≡ false) (h : 68 ≤ out) where
     pub invoke_none : ops.count < 1 → invoking s ops out ≡ refusal s 1
-    unfolding invoking ok_asked if◌then◌else◌
+    unfolding invoking ok_asked If◌then◌else◌
     invoke_none l = rw (n, le-ltb out 68 h, lt-leb 1 ops.count l)
 
     module _ (l : 1 ≤ ops.count) (items : List Item) (e : items ≡ items_of ops) (ok : Bool) (o : ok ≡ ok_items ops.count items) where
       pub invoke_wrong : not ok ≡ true → invoking s ops out ≡ refusal s 1
-      unfolding invoking ok_asked if◌then◌else◌
+      unfolding invoking ok_asked If◌then◌else◌
       invoke_wrong w = rw (n, le-ltb out 68 h, le-leb 1 ops.count l, ← e, ← o, w)
 
       module _ (w : not ok ≡ false) (v : Invoked) (i : v ≡ W.invoked_of s.window ops.count items) where
         pub invoke_full : (v.answer ≡ 0 → ⊥) → invoking s ops out ≡ refusal s v.answer
-        unfolding invoking ok_asked taking if◌then◌else◌
+        unfolding invoking ok_asked taking If◌then◌else◌
         invoke_full d = rw (n, le-ltb out 68 h, le-leb 1 ops.count l, ← e, ← o, w, ← i, ne_eqb v.answer 0 d)
 
         pub invoke_goes : v.answer ≡ 0 → invoking s ops out ≡ sending (with_window v.window s) v.number ops.count items
-        unfolding invoking ok_asked taking if◌then◌else◌
+        unfolding invoking ok_asked taking If◌then◌else◌
         invoke_goes d = rw (n, le-ltb out 68 h, le-leb 1 ops.count l, ← e, ← o, w, ← i, eq-eqb v.answer 0 d)
 
 -- ---- Retry
 
 module _ (s : Session) (number out : ℕ) where
   pub retry_not_started : not s.started ≡ true → retrying s number out ≡ refusal s 11
-  unfolding retrying if◌then◌else◌
+  unfolding retrying If◌then◌else◌
   retry_not_started n = rw n
 
   pub retry_small : not s.started ≡ false → out < 68 → retrying s number out ≡ refusal s 11
-  unfolding retrying if◌then◌else◌
+  unfolding retrying If◌then◌else◌
   retry_small n h = rw (n, lt-ltb out 68 h)
 
   module _ (n : not s.started ≡ false) (h : 68 ≤ out) (slot : Slot) (e : slot ≡ W.kept_of s.window number) where
     pub retry_late : slot.count < 1 → retrying s number out ≡ refusal s 7
-    unfolding retrying if◌then◌else◌
+    unfolding retrying If◌then◌else◌
     retry_late l = rw (n, le-ltb out 68 h, ← e, lt-ltb slot.count 1 l)
 
     pub retry_goes : 1 ≤ slot.count → retrying s number out ≡ sending s number slot.count slot.items
-    unfolding retrying if◌then◌else◌
+    unfolding retrying If◌then◌else◌
     retry_goes l = rw (n, le-ltb out 68 h, ← e, le-ltb slot.count 1 l)
 
 -- ---- Response
@@ -110,7 +110,7 @@ module _ (s : Session) (number out : ℕ) where
 -- a frame was read, and its kind decides
 pub by_kind : (s : Session) (bytes : List ℕ) (f : Frame) (head : Head) → not s.started ≡ false → f ≡ read_frame bytes → f.head ≡ head →
     responded_of s bytes ≡ by_head s head f.count f.items
-unfolding responded_of if◌then◌else◌
+unfolding responded_of If◌then◌else◌
 by_kind s bytes f head n e h = simp (n, ← e, h)
 
 one_of : (t : ℕ) → OneOf (1 ∷ 2 ∷ 3 ∷ 4 ∷ 5 ∷ []) t → (1 ≤ t) × (t ≤ 5)

@@ -2,7 +2,7 @@
 -- Assumes nothing.
 use Rattle.std.specs.Prelude.{Bool, true, false, not, ◌&&◌, List, [], ◌∷◌, ℕ, length, get_or, replicate}
 use Rattle.std.proofs.Math.Option.{Option, none, some}
-use Rattle.rules.specs.Lists.{if◌then◌else◌, ◌<?◌, ◌≤?◌, ◌=?◌}
+use Rattle.rules.specs.Lists.{If◌then◌else◌, ◌<?◌, ◌≤?◌, ◌=?◌}
 use Rattle.rules.specs.Answers.{done, breaks_rule, not_for_me, too_late, does_not_fit, not_usable}
 use Rattle.rules.specs.Outcomes.{unusable}
 use Rattle.frames.specs.declared.Item.{Item}
@@ -26,7 +26,7 @@ use Rattle.session.specs.declared.Responded.{Responded}
 
 unfoldable pub started_of : ℕ → Started
 started_of client =
-    if 15 <? client then record { session = record { window = W.fresh_window; client = 0; started = false }; answer = not_usable } else
+    If 15 <? client then record { session = record { window = W.fresh_window; client = 0; started = false }; answer = not_usable } else
     record { session = record { window = W.fresh_window; client = client; started = true }; answer = done }
 
 -- ---- The list that is asked for
@@ -36,7 +36,7 @@ no_asked = record { code = 0; key = 0; value = 0 }
 
 -- the operation at a place, as it is kept and sent; nothing behind the list's end
 unfoldable pub kept_item : Asked → ℕ → ℕ → Item
-kept_item a place count = if place <? count then record { place = place; code = a.code; key = a.key; value = a.value } else no_item
+kept_item a place count = If place <? count then record { place = place; code = a.code; key = a.key; value = a.value } else no_item
 
 unfoldable pub item_at : Operations → ℕ → Item
 item_at ops place = kept_item (get_or ops.items place no_asked) place ops.count
@@ -95,13 +95,13 @@ with_window w s = record { window = w; client = s.client; started = s.started }
 
 unfoldable pub taking : Session → ℕ → List Item → Invoked → Call
 taking s count items v =
-    if not (v.answer =? done) then refusal s v.answer else
+    If not (v.answer =? done) then refusal s v.answer else
     sending (with_window v.window s) v.number count items
 
 unfoldable pub invoking : Session → Operations → ℕ → Call
 invoking s ops out =
-    if unusable s.started out then refusal s not_usable else
-    if not (ok_asked ops) then refusal s breaks_rule else
+    If unusable s.started out then refusal s not_usable else
+    If not (ok_asked ops) then refusal s breaks_rule else
     taking s ops.count (items_of ops) (W.invoked_of s.window ops.count (items_of ops))
 
 unfoldable pub invoked_of : Session → Operations → List ℕ → Submitted
@@ -115,8 +115,8 @@ invoke_out s ops out = laid (invoking s ops (length out)) out
 unfoldable pub retrying : Session → ℕ → ℕ → Call
 retrying s number out =
     let slot = W.kept_of s.window number in
-    if unusable s.started out then refusal s not_usable else
-    if slot.count <? 1 then refusal s too_late else
+    If unusable s.started out then refusal s not_usable else
+    If slot.count <? 1 then refusal s too_late else
     sending s number slot.count slot.items
 
 unfoldable pub retried_of : Session → ℕ → List ℕ → Submitted
@@ -133,9 +133,9 @@ declined_of s answer = record { session = s; reply = record { answer = answer; n
 unfoldable pub heard_of : Session → ℕ → ℕ → ℕ → List Item → Responded
 heard_of s client number count reads =
     let slot = W.kept_of s.window number in
-    if not (client =? s.client) then declined_of s not_for_me else
-    if slot.count <? 1 then declined_of s too_late else
-    if not (fits_of slot.count slot.items count reads) then declined_of s does_not_fit else
+    If not (client =? s.client) then declined_of s not_for_me else
+    If slot.count <? 1 then declined_of s too_late else
+    If not (fits_of slot.count slot.items count reads) then declined_of s does_not_fit else
     record { session = with_window (W.answered_of s.window number) s; reply = record { answer = done; number = number; count = count; reads = reads } }
 
 -- by kind: "the kind isn't for this receiver"
@@ -150,5 +150,5 @@ by_head s (Response client number) count items = heard_of s client number count 
 
 unfoldable pub responded_of : Session → List ℕ → Responded
 responded_of s bytes =
-    if not s.started then declined_of s not_usable else
+    If not s.started then declined_of s not_usable else
     by_head s (read_frame bytes).head (read_frame bytes).count (read_frame bytes).items

@@ -2,7 +2,7 @@
 -- Assumes nothing.
 use Rattle.std.specs.Prelude.{◌≡◌, List, [], ◌∷◌, ℕ, zero, suc, ◌≤◌, ◌<◌, length}
 use Rattle.std.proofs.Math.Option.{Option, none, some}
-use Rattle.rules.specs.Lists.{if◌then◌else◌, ◌=?◌}
+use Rattle.rules.specs.Lists.{If◌then◌else◌, ◌=?◌}
 use Rattle.rules.specs.Answers.{done}
 use Rattle.rules.specs.Frames as F
 use Rattle.rules.specs.Outcomes.{Outcome, frame_count, byte_count, out_after}
@@ -75,7 +75,7 @@ pub record SubmitMeans (o : Outcome R.Session) (n : ℕ) (out : List ℕ) (r : S
   pub held : Held r.session
   pub answer : r.sent.answer ≡ o.answer
   pub state : view_session r.session ≡ o.state
-  pub number : r.sent.number ≡ (if o.answer =? done then n else 0)
+  pub number : r.sent.number ≡ (If o.answer =? done then n else 0)
   pub frames : r.sent.frames ≡ frame_count o
   pub bytes : r.sent.bytes ≡ byte_count o
   pub written : left ≡ out_after o.frames out

@@ -10,7 +10,7 @@ use native.Mathlib.Omega.{arith}
 use lib.Dec.{T, leb, eqb, leb→le}
 use lib.ListN.{length, take, length-map}
 use borrow.Author.Tests.{ltb-true, ltb-false, lt-ltb, le-ltb, ne_eqb}
-use Rattle.rules.specs.Lists.{if◌then◌else◌, ◌<?◌, ◌≤?◌, ◌=?◌, within, every, below}
+use Rattle.rules.specs.Lists.{If◌then◌else◌, ◌<?◌, ◌≤?◌, ◌=?◌, within, every, below}
 use Rattle.rules.specs.Transactions.{Operation, get, put, Placed, key_of, shard_of, reads_of}
 use Rattle.rules.specs.Frames as F
 use Rattle.rules.specs.Frames.{ok_ind, ok_value, ok_operation, ok_placed, rising, obeys}
@@ -60,8 +60,8 @@ pub record Meant (o : Outcome) (r : O.Outcome S.Shard) : Type 0 where
   pub frames : o.frames ≡ map record_of r.frames
 
 -- two choices by one test
-pub both : {A B : Type 0} (P : A → B → Type 0) (t : Bool) {x y : A} {u w : B} → (T t → P x u) → (T (not t) → P y w) → P (if t then x else y) (if t then u else w)
-unfolding if◌then◌else◌
+pub both : {A B : Type 0} (P : A → B → Type 0) (t : Bool) {x y : A} {u w : B} → (T t → P x u) → (T (not t) → P y w) → P (If t then x else y) (If t then u else w)
+unfolding If◌then◌else◌
 both P true f g = f tt
 both P false f g = g tt
 
@@ -82,14 +82,14 @@ module _ (s : Shard) where
   Says xs v r = Meant (settled s xs v) r
 
   pub refused_means : (xs : List Item) (answer : ℕ) → (answer =? 0) ≡ false → Says xs (refused answer) (refuse answer (view_shard s))
-  unfolding settled if◌then◌else◌ refuse
+  unfolding settled If◌then◌else◌ refuse
   refused_means xs answer e = rw e (record { answer = refl; state = refl; frames = refl })
 
 module _ (s : Shard) (h : Held s) (groups : 1 ≤ s.m) where
   ran_says : (xs : List Item) (ind sn : ℕ) → Keys xs → length xs ≤ 4
       → Says s xs (record { answer = 0; log_number = ind; sn = sn })
       (taken (S.run ind sn (map as_placed xs) (view_shard s)) (F.exec_notif s.own ind (reads_of ind (view_store s.cells) (map as_placed xs)) ∷ []))
-  unfolding settled if◌then◌else◌ taken after S.run view_shard exec_notif reads_record
+  unfolding settled If◌then◌else◌ taken after S.run view_shard exec_notif reads_record
   ran_says xs ind sn k few =
       let r = ran_means ind xs (record { cells = s.cells; reads = no_reads }) (view_store s.cells) [] k (omega arith) (record { size = h.size; store = refl; reads = refl }) in
       record {

@@ -10,7 +10,7 @@ use native.Mathlib.Omega.{arith}
 use lib.Dec.{T, leb→le}
 use lib.ListN.{length, get_or, drop, set, replicate, length-set, length-map}
 use lib.Seq.{ext_get_or}
-use Rattle.rules.specs.Lists.{if◌then◌else◌, ◌<?◌, ◌≤?◌, ◌=?◌, within, every}
+use Rattle.rules.specs.Lists.{If◌then◌else◌, ◌<?◌, ◌≤?◌, ◌=?◌, within, every}
 use Rattle.rules.specs.Answers.{not_usable}
 use Rattle.rules.specs.Transactions as R
 use Rattle.rules.specs.Frames as F
@@ -47,7 +47,7 @@ each_absent (suc n) (suc key) = each_absent n key
 module _ (m own : ℕ) (started : Bool) where
   -- a fresh group knows no key
   empty_store : (key : ℕ) → view_store (empty_shard m own started).cells key ≡ none
-  unfolding view_store empty_shard view_cell if◌then◌else◌
+  unfolding view_store empty_shard view_cell If◌then◌else◌
   empty_store key = ap view_cell (each_absent 256 key)
 
   empty_means : view_shard (empty_shard m own started) ≡ S.empty_shard started m own
@@ -215,7 +215,7 @@ one_step s bytes out r t left rest p q = (p.0 ∙ sym q.0, p.1 ∙ sym q.1)
 -- ---- A group is determined by what it means
 
 cell_one : (c d : Cell) → Blank c → Blank d → view_cell c ≡ view_cell d → c ≡ d
-unfolding view_cell if◌then◌else◌
+unfolding view_cell If◌then◌else◌
 cell_one c d h k e = at c.present d.present refl refl
   where
     at : (p q : Bool) → p ≡ c.present → q ≡ d.present → c ≡ d

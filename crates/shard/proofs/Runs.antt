@@ -11,7 +11,7 @@ use lib.Dec.{eqb}
 use lib.ListN.{length, set, length-set, length-append, length-map}
 use lib.Seq.{set-get_or, get_or-set_same, get_or-set_other}
 use borrow.Author.Tests.{lt-ltb, eqb-true, eqb-false}
-use Rattle.rules.specs.Lists.{if◌then◌else◌, ◌=?◌, changed}
+use Rattle.rules.specs.Lists.{If◌then◌else◌, ◌=?◌, changed}
 use Rattle.rules.specs.Transactions.{Operation, get, put, Placed, Read, Store, effect, store_after, value_of, note, reads_of}
 use Rattle.frames.specs.declared.Item.{Item}
 use Rattle.shard.specs.declared.Cell.{Cell}
@@ -27,12 +27,12 @@ module _ (ind : ℕ) (x : Item) (cells : List Cell) (size : length cells ≡ 256
   abbrev new : Cell
   new = cell_after ind x (cell_at cells x.key)
 
-  stored : (t : Bool) → t ≡ (x.code =? 0) → (key : ℕ) → view_cell (cell_at (set cells x.key new) key) ≡ effect ind (view_store cells) (if t then get x.key else put x.key x.value) key
-  unfolding cell_after if◌then◌else◌ view_cell view_store changed
+  stored : (t : Bool) → t ≡ (x.code =? 0) → (key : ℕ) → view_cell (cell_at (set cells x.key new) key) ≡ effect ind (view_store cells) (If t then get x.key else put x.key x.value) key
+  unfolding cell_after If◌then◌else◌ view_cell view_store changed
   stored true e key = rw (← e, set-get_or cells x.key absent)
   stored false e key = at (eqb key x.key) refl
     where
-      at : (u : Bool) → u ≡ eqb key x.key → view_cell (cell_at (set cells x.key new) key) ≡ (if eqb key x.key then some (record { value = x.value; ind = ind }) else view_cell (cell_at cells key))
+      at : (u : Bool) → u ≡ eqb key x.key → view_cell (cell_at (set cells x.key new) key) ≡ (If eqb key x.key then some (record { value = x.value; ind = ind }) else view_cell (cell_at cells key))
       at true f =
           let k = eqb-true key x.key (sym f) in
           let h : x.key < length cells = omega arith in
@@ -45,7 +45,7 @@ module _ (ind : ℕ) (x : Item) (cells : List Cell) (size : length cells ≡ 256
 
 -- what a get says is the record of what the rules' get says
 read_means : (x : Item) (c : Cell) → read_of x c ≡ read_item (record { place = x.place; value = value_of (view_cell c) })
-unfolding read_of view_cell if◌then◌else◌
+unfolding read_of view_cell If◌then◌else◌
 read_means x c = at c.present refl
   where
     at : (t : Bool) → t ≡ c.present → read_of x c ≡ read_item (record { place = x.place; value = value_of (view_cell c) })
@@ -60,8 +60,8 @@ filled_snoc (suc k) (y ∷ xs) x h = ap (λ (l : List Item). y ∷ l) (filled_sn
 
 module _ (x : Item) (cells : List Cell) (rs : List Read) (few : length rs < 4) where
   noted_at : (t : Bool) → t ≡ (x.code =? 0)
-      → noted (reads_record rs) x (cell_at cells x.key) ≡ reads_record (rs ++ note (as_placed x) (if t then get x.key else put x.key x.value) (view_store cells) [])
-  unfolding noted if◌then◌else◌ view_store reads_record
+      → noted (reads_record rs) x (cell_at cells x.key) ≡ reads_record (rs ++ note (as_placed x) (If t then get x.key else put x.key x.value) (view_store cells) [])
+  unfolding noted If◌then◌else◌ view_store reads_record
   noted_at true e =
       let r : Read = record { place = x.place; value = value_of (view_cell (cell_at cells x.key)) } in
       let n : length (map read_item rs) ≡ length rs = length-map rs read_item in

@@ -7,7 +7,7 @@ use Prim.Native.Nat.{ℕ, ◌+◌, ◌≤◌, ◌<◌}
 use native.Mathlib.Omega.{arith}
 use lib.ListN.{length, get_or, take, drop, set, length-set}
 use borrow.Author.Tests.{not-true, not-false, eq-eqb, ne_eqb}
-use Rattle.rules.specs.Lists.{within, if◌then◌else◌}
+use Rattle.rules.specs.Lists.{within, If◌then◌else◌}
 use Rattle.frames.specs.declared.Item.{Item}
 use Rattle.frames.specs.declared.Head.{Head}
 use Rattle.frames.specs.declared.Head.TheVariants.{Bad, Submit, Forward, ShardAppend, ExecNotif, Executed, Response}
@@ -34,11 +34,11 @@ module _ (m own : ℕ) (s : Shard) where
   Usable = within 1 8 m && within 1 m own
 
   pub start_not : not Usable ≡ true → s ≡ empty_shard 0 0 false → record { shard = s; answer = 11 } ≡ start_of m own
-  unfolding start_of if◌then◌else◌
+  unfolding start_of If◌then◌else◌
   start_not t e = simp (not-true Usable t, e)
 
   pub start_taken : not Usable ≡ false → s ≡ empty_shard m own true → record { shard = s; answer = 0 } ≡ start_of m own
-  unfolding start_of if◌then◌else◌
+  unfolding start_of If◌then◌else◌
   start_taken t e = simp (not-false Usable t, e)
 
 -- ---- A head that is neither Bad nor a ShardAppend is for somebody else
@@ -119,7 +119,7 @@ module _ (s : Shard) (bytes out : List ℕ) where
     unfolding stepped laid
     out_refused k =
         given (record { shard = s; answer = v.answer; frames = [] })
-        (is_settled ∙ unfold settled if◌then◌else◌ in (simp (ne_eqb v.answer 0 k)))
+        (is_settled ∙ unfold settled If◌then◌else◌ in (simp (ne_eqb v.answer 0 k)))
 
     pub out_taken : v.answer ≡ 0 → (r : Running) → ran v.log_number (take f.count f.items) (record { cells = s.cells; reads = no_reads }) ≡ r
         → (g : Frame) → g ≡ exec_notif s.own v.log_number r.reads
@@ -128,7 +128,7 @@ module _ (s : Shard) (bytes out : List ℕ) where
     unfolding stepped laid after
     out_taken k r p g q b left u w =
         let o = given (after s v.log_number v.sn r)
-        (is_settled ∙ unfold settled if◌then◌else◌ in (simp (eq-eqb v.answer 0 k, p))) in
+        (is_settled ∙ unfold settled If◌then◌else◌ in (simp (eq-eqb v.answer 0 k, p))) in
         let n : List ℕ = frame_bytes (exec_notif s.own v.log_number r.reads) in
         let c : b ≡ length (n ++ []) = u ∙ ap (λ (x : Frame). length (frame_bytes x)) q ∙ ap length (sym (append-nil n)) in
         let l : left ≡ (n ++ []) ++ drop (length (n ++ [])) out =

@@ -1,7 +1,7 @@
 -- What the code does with the records as they lie: every field and every byte, for every value of a record.
 -- Assumes nothing.
 use Rattle.std.specs.Prelude.{Bool, true, false, not, ◌&&◌, List, [], ◌∷◌, ◌++◌, ℕ, ◌+◌, ◌%◌, length, get_or, take, drop, set, replicate}
-use Rattle.rules.specs.Lists.{if◌then◌else◌, ◌<?◌, ◌≤?◌, ◌=?◌, within, every}
+use Rattle.rules.specs.Lists.{If◌then◌else◌, ◌<?◌, ◌≤?◌, ◌=?◌, within, every}
 use Rattle.rules.specs.Answers.{done, breaks_rule, not_for_me, too_early, too_late, does_not_fit, not_usable}
 use Rattle.rules.specs.Outcomes.{unusable}
 use Rattle.frames.specs.declared.Item.{Item}
@@ -28,7 +28,7 @@ empty_shard m own started =
 
 unfoldable pub start_of : ℕ → ℕ → Started
 start_of m own =
-    if within 1 8 m && within 1 m own
+    If within 1 8 m && within 1 m own
     then record { shard = empty_shard m own true; answer = done }
     else record { shard = empty_shard 0 0 false; answer = not_usable }
 
@@ -47,10 +47,10 @@ refused answer = record { answer = answer; log_number = 0; sn = 0 }
 -- a ShardAppend to this group: refusals 7, 4, 8. last is 1 more than the log number last run, 0 where none was.
 unfoldable pub judge_append : ℕ → ℕ → ℕ → ℕ → List Item → ℕ → ℕ → Verdict
 judge_append m own ssn last xs log-number sn =
-    if sn ≤? ssn then refused too_late else
-    if ssn + 1 <? sn then refused too_early else
-    if not (all_mine m own xs) then refused does_not_fit else
-    if log-number <? last then refused does_not_fit else
+    If sn ≤? ssn then refused too_late else
+    If ssn + 1 <? sn then refused too_early else
+    If not (all_mine m own xs) then refused does_not_fit else
+    If log-number <? last then refused does_not_fit else
     record { answer = done; log_number = log-number; sn = sn }
 
 -- refusals 1, 2 before these
@@ -58,7 +58,7 @@ unfoldable pub judge_head : ℕ → ℕ → ℕ → ℕ → List Item → Head �
 judge_head m own ssn last xs Bad = refused breaks_rule
 judge_head m own ssn last xs (Submit client number ack) = refused not_for_me
 judge_head m own ssn last xs (Forward log-number client number ack) = refused not_for_me
-judge_head m own ssn last xs (ShardAppend shard log-number sn) = if shard =? own then judge_append m own ssn last xs log-number sn else refused not_for_me
+judge_head m own ssn last xs (ShardAppend shard log-number sn) = If shard =? own then judge_append m own ssn last xs log-number sn else refused not_for_me
 judge_head m own ssn last xs (ExecNotif shard log-number) = refused not_for_me
 judge_head m own ssn last xs (Executed log-number) = refused not_for_me
 judge_head m own ssn last xs (Response client number) = refused not_for_me
@@ -66,7 +66,7 @@ judge_head m own ssn last xs (Response client number) = refused not_for_me
 -- refusal 11 before these
 unfoldable pub judge : Bool → ℕ → ℕ → ℕ → ℕ → ℕ → Frame → Verdict
 judge started room m own ssn last f =
-    if unusable started room then refused not_usable else judge_head m own ssn last (take f.count f.items) f.head
+    If unusable started room then refused not_usable else judge_head m own ssn last (take f.count f.items) f.head
 
 -- ---- Running
 
@@ -75,12 +75,12 @@ cell_at cells key = get_or cells key absent
 
 -- "Each put stores the value and the log number"; a get leaves its cell as it is
 unfoldable pub cell_after : ℕ → Item → Cell → Cell
-cell_after log-number x c = if x.code =? 0 then c else record { value = x.value; log_number = log-number; present = true }
+cell_after log-number x c = If x.code =? 0 then c else record { value = x.value; log_number = log-number; present = true }
 
 -- "place (1), present 0 or 1 (1), value (4; 0 if absent)"
 unfoldable pub read_of : Item → Cell → Item
 read_of x c =
-    if c.present
+    If c.present
     then record { place = x.place; code = 1; key = 0; value = c.value }
     else record { place = x.place; code = 0; key = 0; value = 0 }
 
@@ -90,7 +90,7 @@ no_reads = record { count = 0; items = replicate 4 no_item }
 -- a get adds what it sees, a put nothing
 unfoldable pub noted : Reads → Item → Cell → Reads
 noted rs x c =
-    if x.code =? 0 && rs.count <? 4
+    If x.code =? 0 && rs.count <? 4
     then record { count = rs.count + 1; items = set rs.items rs.count (read_of x c) }
     else rs
 
@@ -134,7 +134,7 @@ after s log-number sn r =
 -- the operations run, or all stays as it was
 unfoldable pub settled : Shard → List Item → Verdict → Outcome
 settled s xs v =
-    if v.answer =? done
+    If v.answer =? done
     then after s v.log_number v.sn (ran v.log_number xs (record { cells = s.cells; reads = no_reads }))
     else record { shard = s; answer = v.answer; frames = [] }
 

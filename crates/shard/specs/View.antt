@@ -2,7 +2,7 @@
 -- Assumes nothing.
 use Rattle.std.specs.Prelude.{◌≡◌, false, ◌&&◌, List, map, ℕ, T, length}
 use Rattle.std.proofs.Math.Option.{Option, none, some}
-use Rattle.rules.specs.Lists.{if◌then◌else◌, within}
+use Rattle.rules.specs.Lists.{If◌then◌else◌, within}
 use Rattle.rules.specs.Transactions.{Read, Store}
 use Rattle.rules.specs.Transactions as R
 use Rattle.rules.specs.Outcomes.{frame_count, byte_count, out_after}
@@ -18,7 +18,7 @@ use Rattle.shard.specs.Model.{absent, cell_at}
 
 -- "A key never put is absent"
 unfoldable pub view_cell : Cell → Option R.Cell
-view_cell c = if c.present then some (record { value = c.value; ind = c.log_number }) else none
+view_cell c = If c.present then some (record { value = c.value; ind = c.log_number }) else none
 
 unfoldable pub view_store : List Cell → Store
 view_store cells = λ key. view_cell (cell_at cells key)

@@ -21,7 +21,7 @@ ByEquation came-of given came = came ≡ came-of given
 abbrev pub Both : {Given A B : Type 0} → Promise Given A → Promise Given B → Promise Given (A × B)
 Both P Q given came = P given came.0 × Q given came.1
 
--- the result and one lent thing, a record or an area, each by an equation: (r ≡ result ..) × (now out.exit ≡ out ..)
+-- the result and one lent thing, a record or an area, each by an equation: (r ≡ result ..) × (out.new ≡ out ..)
 abbrev pub WithLent : {Given Result Lent : Type 0} → (Given → Result) → (Given → Lent) → Promise Given (Result × Lent)
 WithLent result lent = Both (ByEquation result) (ByEquation lent)
 

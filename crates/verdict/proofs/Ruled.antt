@@ -9,7 +9,7 @@ use Prim.Native.Nat.{ℕ, ◌≤◌, ◌<◌}
 use lib.ListN.{length, set}
 use lib.Seq.{get_or-set_same, get_or-set_other}
 use borrow.Author.Tests.{lt-ltb, le-ltb}
-use Rattle.rules.specs.Lists.{if◌then◌else◌}
+use Rattle.rules.specs.Lists.{If◌then◌else◌}
 use Rattle.rules.specs.Answers.{too_early}
 use Rattle.rules.proofs.Lists.{by}
 use Rattle.frames.specs.declared.Item.{Item}
@@ -96,5 +96,5 @@ module _ (count : ℕ) (items : List Item) (n m own : ℕ) (floor next : List �
   -- a number above high + 1 appended: a number would be skipped for good
   pub early_refused : (client number ack : ℕ) → own ≡ 1 → floor_of floor client ≤ number → next_of next client < number
       → judge_of (Submit client number ack) count items n m own floor next len held e ≡ refuse_of too_early
-  unfolding judge_of judge_submit if◌then◌else◌
+  unfolding judge_of judge_submit If◌then◌else◌
   early_refused client number ack head low early = rw (head, le-ltb number (floor_of floor client) low, lt-ltb (next_of next client) number early)

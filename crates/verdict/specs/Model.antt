@@ -1,7 +1,7 @@
 -- What a frame comes to, on the records as they lie, for every input: each refusal in its place, or the entry as it then stands.
 -- Assumes nothing.
 use Rattle.std.specs.Prelude.{Bool, true, false, not, ◌&&◌, List, ℕ, ◌+◌, get_or}
-use Rattle.rules.specs.Lists.{if◌then◌else◌, ◌<?◌, ◌≤?◌, ◌=?◌}
+use Rattle.rules.specs.Lists.{If◌then◌else◌, ◌<?◌, ◌≤?◌, ◌=?◌}
 use Rattle.rules.specs.Answers.{done, breaks_rule, not_for_me, below_floor, too_early, log_full, not_in_log, too_late, does_not_fit}
 use Rattle.rules.specs.Board.{log_size}
 use Rattle.frames.specs.declared.Item.{Item}
@@ -27,7 +27,7 @@ refuse_of answer = record { answer = answer; entry = no_entry; fresh = false; le
 
 unfoldable pub new_of : ℕ → ℕ → ℕ → ℕ → ℕ → List Item → ℕ → Verdict
 new_of m client number ack count items len =
-    if log_size ≤? len then refuse_of log_full else
+    If log_size ≤? len then refuse_of log_full else
     record {
       answer = done;
       entry = new_entry_of m client number count items;
@@ -40,28 +40,28 @@ new_of m client number ack count items len =
 
 unfoldable pub held_of : ℕ → ℕ → ℕ → ℕ → List Item → ℕ → Bool → Entry → Verdict
 held_of client number ack count items len held e =
-    if not (held && same_write_of e client number count items) then refuse_of does_not_fit else
+    If not (held && same_write_of e client number count items) then refuse_of does_not_fit else
     record { answer = done; entry = e; fresh = false; len = len; shards = 0; ack = ack; sends = true }
 
 unfoldable pub judge_submit : ℕ → ℕ → ℕ → ℕ → ℕ → List Item → ℕ → ℕ → ℕ → Bool → Entry → Verdict
 judge_submit m client number ack count items low next len held e =
-    if number <? low then refuse_of below_floor else
-    if next <? number then refuse_of too_early else
-    if number <? next then held_of client number ack count items len held e else
+    If number <? low then refuse_of below_floor else
+    If next <? number then refuse_of too_early else
+    If number <? next then held_of client number ack count items len held e else
     new_of m client number ack count items len
 
 unfoldable pub judge_forward : ℕ → ℕ → ℕ → ℕ → ℕ → ℕ → List Item → ℕ → ℕ → Entry → Verdict
 judge_forward m ind client number ack count items next len e =
-    if len <? ind then refuse_of too_early else
-    if ind <? len then held_of client number ack count items len true e else
-    if not (number =? next) then refuse_of does_not_fit else
+    If len <? ind then refuse_of too_early else
+    If ind <? len then held_of client number ack count items len true e else
+    If not (number =? next) then refuse_of does_not_fit else
     new_of m client number ack count items len
 
 unfoldable pub judge_exec_notif : ℕ → ℕ → ℕ → List Item → ℕ → Bool → Entry → Verdict
 judge_exec_notif m shard count reads len held e =
-    if not held then refuse_of not_in_log else
-    if not (in_mask e.remaining shard) then refuse_of too_late else
-    if not (fits_of (part_on m shard e.count e.items).count (part_on m shard e.count e.items).items count reads) then refuse_of does_not_fit else
+    If not held then refuse_of not_in_log else
+    If not (in_mask e.remaining shard) then refuse_of too_late else
+    If not (fits_of (part_on m shard e.count e.items).count (part_on m shard e.count e.items).items count reads) then refuse_of does_not_fit else
     record {
       answer = done;
       entry = heard_from_of e shard count reads;
@@ -74,9 +74,9 @@ judge_exec_notif m shard count reads len held e =
 
 unfoldable pub judge_executed : ℕ → ℕ → List Item → ℕ → Bool → Entry → Verdict
 judge_executed m count reads len held e =
-    if not held then refuse_of not_in_log else
-    if e.exe then refuse_of too_late else
-    if not (fits_of e.count e.items count reads) then refuse_of does_not_fit else
+    If not held then refuse_of not_in_log else
+    If e.exe then refuse_of too_late else
+    If not (fits_of e.count e.items count reads) then refuse_of does_not_fit else
     record {
       answer = done;
       entry = finished_of e count reads;
@@ -91,12 +91,12 @@ judge_executed m count reads len held e =
 unfoldable pub judge_of : Head → ℕ → List Item → ℕ → ℕ → ℕ → List ℕ → List ℕ → ℕ → Bool → Entry → Verdict
 judge_of Bad count items n m own floor next len held e = refuse_of breaks_rule
 judge_of (Submit client number ack) count items n m own floor next len held e =
-    if own =? 1 then judge_submit m client number ack count items (floor_of floor client) (next_of next client) len held e else refuse_of not_for_me
+    If own =? 1 then judge_submit m client number ack count items (floor_of floor client) (next_of next client) len held e else refuse_of not_for_me
 judge_of (Forward ind client number ack) count items n m own floor next len held e =
-    if 2 ≤? own then judge_forward m ind client number ack count items (next_of next client) len e else refuse_of not_for_me
+    If 2 ≤? own then judge_forward m ind client number ack count items (next_of next client) len e else refuse_of not_for_me
 judge_of (ShardAppend shard ind sn) count items n m own floor next len held e = refuse_of not_for_me
 judge_of (ExecNotif shard ind) count items n m own floor next len held e =
-    if own =? n && shard ≤? m then judge_exec_notif m shard count items len held e else refuse_of not_for_me
+    If own =? n && shard ≤? m then judge_exec_notif m shard count items len held e else refuse_of not_for_me
 judge_of (Executed ind) count items n m own floor next len held e =
-    if own <? n then judge_executed m count items len held e else refuse_of not_for_me
+    If own <? n then judge_executed m count items len held e else refuse_of not_for_me
 judge_of (Response client number) count items n m own floor next len held e = refuse_of not_for_me

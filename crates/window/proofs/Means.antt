@@ -12,7 +12,7 @@ use native.Mathlib.Omega.{arith}
 use lib.Dec.{T, leb, eqb, leb→le, le→leb, nleb→lt, eqb→eq, eqb_refl, T_not, not_T}
 use lib.ListN.{length, get_or, set, length-set, get_or-replicate}
 use lib.Seq.{get_or-set_same, get_or-set_other}
-use Rattle.rules.specs.Lists.{if◌then◌else◌, snoc}
+use Rattle.rules.specs.Lists.{If◌then◌else◌, snoc}
 use Rattle.rules.specs.Transactions.{Operation}
 use Rattle.rules.specs.Frames.{ok_operations}
 use Rattle.rules.specs.Session as R
@@ -28,7 +28,7 @@ use Rattle.window.proofs.Items.{items_back, some_operations}
 -- ---- The smallest outstanding number
 
 first_means : (slots : List Slot) (number more : ℕ) → R.first_of (outstanding_from slots number more) (number + more) ≡ first_from slots number more
-unfolding outstanding_of if◌then◌else◌
+unfolding outstanding_of If◌then◌else◌
 first_means slots number zero = omega arith
 first_means slots number (suc more) =
     let next : suc number + more ≡ number + suc more = omega arith in
@@ -44,7 +44,7 @@ smallest_means w =
 
 -- no outstanding number of a range is below the one found first, which is in the range or behind it
 first_range : (slots : List Slot) (number more : ℕ) → (number ≤ first_from slots number more) × (first_from slots number more ≤ number + more)
-unfolding if◌then◌else◌
+unfolding If◌then◌else◌
 first_range slots number zero = (omega arith, omega arith)
 first_range slots number (suc more) =
     let h = first_range slots (suc number) more in
@@ -57,7 +57,7 @@ unfolding smallest_of
 smallest_range w = let r = first_range w.slots (oldest w.next) (span w.next) in (r.0, omega (arith, r.1))
 
 first_least : (slots : List Slot) (number more k : ℕ) → number ≤ k → k < number + more → T (is_outstanding slots k) → first_from slots number more ≤ k
-unfolding if◌then◌else◌
+unfolding If◌then◌else◌
 first_least slots number zero k l u t = absurd (omega arith)
 first_least slots number (suc more) k l u t =
     either (is_outstanding slots number)
@@ -93,8 +93,8 @@ outstanding_range w number h t =
 -- ---- The kept operations
 
 operations_means : (slots : List Slot) (number more k : ℕ) → (T (is_outstanding slots k) → (number ≤ k) × (k < number + more)) →
-    R.operations_of k (outstanding_from slots number more) ≡ (if is_outstanding slots k then some (outstanding_of slots k).operations else none)
-unfolding if◌then◌else◌ outstanding_of
+    R.operations_of k (outstanding_from slots number more) ≡ (If is_outstanding slots k then some (outstanding_of slots k).operations else none)
+unfolding If◌then◌else◌ outstanding_of
 operations_means slots number zero k h =
     either (is_outstanding slots k) (λ t. absurd (omega (arith, (h t).0, (h t).1))) (λ t. rw (T_false (is_outstanding slots k) t))
 operations_means slots number (suc more) k h =
@@ -115,7 +115,7 @@ operations_means slots number (suc more) k h =
     (omega (arith, other), omega arith))))
 
 kept_found : (w : Window) (number : ℕ) → Held w →
-    R.operations_of number (view_window w).outstanding ≡ (if is_outstanding w.slots number then some (outstanding_of w.slots number).operations else none)
+    R.operations_of number (view_window w).outstanding ≡ (If is_outstanding w.slots number then some (outstanding_of w.slots number).operations else none)
 unfolding view_window
 kept_found w number h =
     operations_means w.slots (oldest w.next) (span w.next) number (λ t. let r = outstanding_range w number h t in (r.0, omega (arith, r.1)))
@@ -187,7 +187,7 @@ only_one slots number k e d t =
     d (sym (outstanding_here slots number y) ∙ here ∙ outstanding_here slots k t))
 
 without_none : (slots : List Slot) (k number more : ℕ) → T (not (is_outstanding slots k)) → R.without k (outstanding_from slots number more) ≡ outstanding_from slots number more
-unfolding if◌then◌else◌ outstanding_of
+unfolding If◌then◌else◌ outstanding_of
 without_none slots k number zero n = refl
 without_none slots k number (suc more) n =
     let rest = without_none slots k (suc number) more n in
@@ -199,7 +199,7 @@ without_none slots k number (suc more) n =
 
 module _ (slots : List Slot) (k : ℕ) (eight : length slots ≡ 8) (t : T (is_outstanding slots k)) where
   without_one : (number more : ℕ) → R.without k (outstanding_from slots number more) ≡ outstanding_from (set slots (k % 8) free) number more
-  unfolding if◌then◌else◌ outstanding_of
+  unfolding If◌then◌else◌ outstanding_of
   without_one number zero = refl
   without_one number (suc more) =
       let rest = without_one (suc number) more in
@@ -253,7 +253,7 @@ module _ (slots : List Slot) (next : ℕ) (os : List Operation) (eight : length 
   -- behind the outstanding ones of the 7 numbers before it
   invoked_last : (number more : ℕ) → number + more ≡ next → next ≤ number + 7 →
       outstanding_from (set slots (next % 8) (slot_for next os)) number (suc more) ≡ snoc (outstanding_from slots number more) (record { number = next; operations = os })
-  unfolding if◌then◌else◌
+  unfolding If◌then◌else◌
   invoked_last number zero e h =
       let same : number ≡ next = omega arith in
       rw (same, T_true (is_outstanding (set slots (next % 8) (slot_for next os)) next) new_outstanding, new_operations)
@@ -384,7 +384,7 @@ held_operations w number h t =
     rw (waiting_operations w.next (number % 8) (slot_of w.slots number) x) x.ok
 
 held_rise : (w : Window) → Held w → (low number more : ℕ) → low ≤ number → Rise low (outstanding_from w.slots number more) (number + more)
-unfolding if◌then◌else◌ outstanding_of
+unfolding If◌then◌else◌ outstanding_of
 held_rise w h low number zero l = omega arith
 held_rise w h low number (suc more) l =
     let next : suc number + more ≡ number + suc more = omega arith in

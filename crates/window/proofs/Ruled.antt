@@ -11,7 +11,7 @@ use lib.Dec.{leb, eqb, eqb→eq}
 use lib.ListN.{get_or-replicate}
 use borrow.Author.Tests.{le-leb, lt-leb}
 use Rattle.frames.specs.declared.Item.{Item}
-use Rattle.rules.specs.Lists.{if◌then◌else◌}
+use Rattle.rules.specs.Lists.{If◌then◌else◌}
 use Rattle.rules.specs.Answers.{window_full, numbers_used_up}
 use Rattle.rules.proofs.Lists.{by, and_l}
 use Rattle.window.specs.declared.Slot.{Slot}
@@ -43,12 +43,12 @@ kept_own w number =
 
 -- a ninth number: it is refused, and the window is as before
 pub ninth_refused : (w : Window) (count : ℕ) (items : List Item) → w.next < 65535 → smallest_of w + 8 ≤ w.next → invoked_of w count items ≡ denied w window_full
-unfolding invoked_of if◌then◌else◌
+unfolding invoked_of If◌then◌else◌
 ninth_refused w count items h g = rw (lt-leb 65535 w.next h, le-leb (smallest_of w + 8) w.next g)
 
 -- number 65,535
 pub numbers_end : (w : Window) (count : ℕ) (items : List Item) → 65535 ≤ w.next → invoked_of w count items ≡ denied w numbers_used_up
-unfolding invoked_of if◌then◌else◌
+unfolding invoked_of If◌then◌else◌
 numbers_end w count items h = rw (le-leb 65535 w.next h)
 
 -- ---- answered
@@ -60,5 +60,5 @@ answered_keeps_next w number = by (λ (v : Window). v.next ≡ w.next) (is_outst
 
 -- a number that is not outstanding: the window is as before
 pub answered_nothing : (w : Window) (number : ℕ) → is_outstanding w.slots number ≡ false → answered_of w number ≡ w
-unfolding answered_of if◌then◌else◌
+unfolding answered_of If◌then◌else◌
 answered_nothing w number h = rw h

@@ -3,7 +3,7 @@
 use Rattle.std.specs.Prelude.{Bool, ◌&&◌, List, [], ℕ, zero, suc, ◌+◌, ◌-◌, ◌%◌, get_or, set, replicate}
 use Rattle.frames.specs.declared.Item.{Item}
 use Rattle.frames.specs.Frames.{no_item}
-use Rattle.rules.specs.Lists.{if◌then◌else◌, ◌≤?◌, ◌=?◌}
+use Rattle.rules.specs.Lists.{If◌then◌else◌, ◌≤?◌, ◌=?◌}
 use Rattle.rules.specs.Answers.{done, window_full, numbers_used_up}
 use Rattle.rules.specs.Session.{window_size}
 use Rattle.window.specs.declared.Slot.{Slot}
@@ -44,7 +44,7 @@ span next = next - oldest next
 -- the first outstanding one of so many numbers, or the number behind them
 abbrev pub first_from : List Slot → ℕ → ℕ → ℕ
 first_from slots number zero = number
-first_from slots number (suc more) = if is_outstanding slots number then number else first_from slots (suc number) more
+first_from slots number (suc more) = If is_outstanding slots number then number else first_from slots (suc number) more
 
 unfoldable pub smallest_of : Window → ℕ
 smallest_of w = first_from w.slots (oldest w.next) (span w.next)
@@ -53,20 +53,20 @@ unfoldable pub least_of : Window → Least
 least_of w = record { window = w; number = smallest_of w }
 
 unfoldable pub kept_of : Window → ℕ → Slot
-kept_of w number = if is_outstanding w.slots number then slot_of w.slots number else free
+kept_of w number = If is_outstanding w.slots number then slot_of w.slots number else free
 
 -- a window with something else in the slot of a number
 unfoldable pub storing : ℕ → Slot → ℕ → Window → Window
 storing number s next w = record { next = next; slots = set w.slots (number % 8) s }
 
 unfoldable pub answered_of : Window → ℕ → Window
-answered_of w number = if is_outstanding w.slots number then storing number free w.next w else w
+answered_of w number = If is_outstanding w.slots number then storing number free w.next w else w
 
 abbrev pub denied : Window → ℕ → Invoked
 denied w refusal = record { window = w; answer = refusal; number = 0 }
 
 unfoldable pub invoked_of : Window → ℕ → List Item → Invoked
 invoked_of w count items =
-    if 65535 ≤? w.next then denied w numbers_used_up else
-    if smallest_of w + window_size ≤? w.next then denied w window_full else
+    If 65535 ≤? w.next then denied w numbers_used_up else
+    If smallest_of w + window_size ≤? w.next then denied w window_full else
     record { window = storing w.next (record { number = w.next; count = count; items = items }) (w.next + 1) w; answer = done; number = w.next }

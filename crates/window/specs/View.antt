@@ -2,7 +2,7 @@
 -- Assumes nothing.
 use Rattle.std.specs.Prelude.{◌≡◌, ◌⊎◌, List, [], ◌∷◌, ℕ, zero, suc, ◌+◌, ◌%◌, ◌≤◌, ◌<◌, T, length}
 use Rattle.frames.specs.View.{operations_of, operation_items, filled}
-use Rattle.rules.specs.Lists.{if◌then◌else◌}
+use Rattle.rules.specs.Lists.{If◌then◌else◌}
 use Rattle.rules.specs.Transactions.{Operation}
 use Rattle.rules.specs.Frames.{ok_operations}
 use Rattle.rules.specs.Session as R
@@ -19,7 +19,7 @@ outstanding_of slots number = record { number = number; operations = operations_
 abbrev pub outstanding_from : List Slot → ℕ → ℕ → List R.Outstanding
 outstanding_from slots number zero = []
 outstanding_from slots number (suc more) =
-    if is_outstanding slots number then outstanding_of slots number ∷ outstanding_from slots (suc number) more else outstanding_from slots (suc number) more
+    If is_outstanding slots number then outstanding_of slots number ∷ outstanding_from slots (suc number) more else outstanding_from slots (suc number) more
 
 unfoldable pub view_window : Window → R.Window
 view_window w = record { next = w.next; outstanding = outstanding_from w.slots (oldest w.next) (span w.next) }

@@ -1,7 +1,7 @@
 -- `board::sent` meets its contract: nothing is written, or what send_parts writes. Assumes nothing.
 use borrow.Author.Tests.{not-true, not-false}
 use mathlib.Core.Path.{refl}
-use Rattle.rules.specs.Lists.{if◌then◌else◌}
+use Rattle.rules.specs.Lists.{If◌then◌else◌}
 use Rattle.board.specs.Model.{frames_of}
 use Rattle.send.specs.Model.{bytes_of, laid}
 use borrow.Author.Rules.{rules}
@@ -9,11 +9,11 @@ use Rattle.board.proofs.sent.Statement.{statement}
 use Rattle.board.proofs.sent.Tie as tie
 
 returns : tie.Need-returns
-unfolding frames_of laid bytes_of if◌then◌else◌
+unfolding frames_of laid bytes_of If◌then◌else◌
 returns c = rw (not-true c.before.before.args.sends c.if1.true) (record { frames = refl; bytes = refl; out = refl })
 
 returns-2 : tie.Need-returns-2
-unfolding frames_of if◌then◌else◌
+unfolding frames_of If◌then◌else◌
 returns-2 c =
     let at-send-parts = c.before.before in
     let at-floor-of = at-send-parts.before.before in

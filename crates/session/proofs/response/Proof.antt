@@ -1,7 +1,7 @@
 -- The kind decides: a Response is heard, a frame that breaks a rule is refused by 1, every other kind by 2.
 -- Assumes nothing.
 use mathlib.Core.Path.{sym, ◌∙◌}
-use Rattle.rules.specs.Lists.{if◌then◌else◌}
+use Rattle.rules.specs.Lists.{If◌then◌else◌}
 use Rattle.session.specs.Model.{responded_of}
 use native.Mathlib.Omega.{arith}
 use Rattle.session.proofs.Promises.{response_promised}
@@ -11,7 +11,7 @@ use Rattle.session.proofs.response.Statement.{statement}
 use Rattle.session.proofs.response.Tie as tie
 
 returns : tie.Need-returns
-unfolding responded_of if◌then◌else◌
+unfolding responded_of If◌then◌else◌
 returns c = response_promised c.before.before.before.before.args.s c.before.before.before.before.args.frame.now (λ i. omega (arith, c.before.before.before.shared-slice-known.given i)) _ (simp (c.declined.ensures, c.before.if1.true))
 
 returns-2 : tie.Need-returns-2

@@ -1,20 +1,20 @@
 -- `verdict::judge_exec_notif` meets its contract: each way out has the tests before it, in the order 6, 7, 8. Assumes nothing.
-use Rattle.rules.specs.Lists.{if◌then◌else◌}
+use Rattle.rules.specs.Lists.{If◌then◌else◌}
 use Rattle.verdict.specs.Model.{judge_exec_notif}
 use borrow.Author.Rules.{rules}
 use Rattle.verdict.proofs.judge_exec_notif.Statement.{statement}
 use Rattle.verdict.proofs.judge_exec_notif.Tie as tie
 
 returns : tie.Need-returns
-unfolding judge_exec_notif if◌then◌else◌
+unfolding judge_exec_notif If◌then◌else◌
 returns c = simp (c.before.if1.true, c.refuse.ensures)
 
 returns-2 : tie.Need-returns-2
-unfolding judge_exec_notif if◌then◌else◌
+unfolding judge_exec_notif If◌then◌else◌
 returns-2 c = simp (c.before.before.before.if1.false, ← c.before.before.in-mask.ensures, c.before.if2.true, c.refuse2.ensures)
 
 returns-3 : tie.Need-returns-3
-unfolding judge_exec_notif if◌then◌else◌
+unfolding judge_exec_notif If◌then◌else◌
 returns-3 c =
     let at-fits2 = c.before.before in
     let at-part-on = at-fits2.before.before in
@@ -24,7 +24,7 @@ returns-3 c =
     simp (at-if1.if1.false, ← at-in-mask.in-mask.ensures, at-if2.if2.false, ← at-part-on.part-on.ensures, ← at-fits2.fits2.ensures, c.before.if3.true, c.refuse3.ensures)
 
 returns-4 : tie.Need-returns-4
-unfolding judge_exec_notif if◌then◌else◌
+unfolding judge_exec_notif If◌then◌else◌
 returns-4 c =
     let at-if3 = c.before.before in
     let at-fits2 = at-if3.before in
