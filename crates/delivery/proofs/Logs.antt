@@ -7,7 +7,7 @@ use native.Mathlib.Omega.{arith}
 use mir.Val.{Val}
 use denote.Laws.{Is}
 use denote.Struct.Laws as LL
-use lib.ListN.{length, take, drop, get_or, length-map, drop_of_length-le}
+use lib.ListN.{length, take, drop, get_or, drop_of_length-le}
 use lib.Seq.{length-take-le}
 use borrow.Author.Tests.{le-leb, lt-leb}
 use Rattle.rules.specs.Lists.{If◌then◌else◌}

@@ -1,12 +1,11 @@
 -- Before each turn `deliver` has delivered some records of the input, and the run that is ahead is the whole run: each turn is one record more.
 -- Assumes nothing.
-use mathlib.Core.Path.{◌≡◌, sym, ◌∙◌}
-use Prim.Native.Nat.{◌-◌, ◌<◌}
+use mathlib.Core.Path.{sym, ◌∙◌}
 use native.Mathlib.Omega.{arith}
-use lib.ListN.{length, length-set}
+use lib.ListN.{length-set}
 use Rattle.delivery.proofs.Eight.{eight_boards, eight_shards}
 use Rattle.delivery.proofs.Turns.{board_within, shard_within, nobody_turned, board_taken, board_refused, shard_taken, shard_refused}
-use Rattle.delivery.proofs.Runs.{Kept, kept_at_first, Ready, ready, kept_on, stopped_index, stopped_room, stopped_ended, none_left_by}
+use Rattle.delivery.proofs.Runs.{kept_at_first, ready, kept_on, stopped_index, stopped_room, stopped_ended, none_left_by}
 use Rattle.delivery.proofs.deliver.Goals as goal
 
 pub loop-index-init : goal.loop-index-init

@@ -1,10 +1,9 @@
 -- Before each turn `log_lines` has laid the lines of the entries that it passed.
 -- Assumes nothing.
 use mathlib.Core.Path.{refl}
-use Prim.Native.Nat.{◌-◌}
 use native.Mathlib.Omega.{arith}
 use lib.ListN.{length-take}
-use Rattle.delivery.proofs.Logs.{Logged, logged_at_first, logged_on, logged_all, logged_none, places}
+use Rattle.delivery.proofs.Logs.{logged_at_first, logged_on, logged_all, logged_none, places}
 use Rattle.delivery.proofs.log_lines.Goals as goal
 
 pub returns-then-text-lt32768 : goal.returns-then-text-lt32768
