@@ -6,8 +6,7 @@ ghost use Rattle.std.specs.Prelude.{◌≡◌, ◌++◌, drop};
 ghost use Rattle.board_situations.specs.Expected.{seen_d, forward_a, seen_f, seen_i};
 
 use board::Board;
-
-const STDOUT: i32 = 1;
+use std::io;
 
 // Answers to B, to C, and to A twice; the log's length then.
 #[derive(Clone, Copy)]
@@ -149,23 +148,23 @@ fn full() -> Board {
 }
 
 // "log of 256, new number: 5; a held PRE number: Forward."
-fn play_j() {
+fn play_j(rt: &impl Print) -> io::Result<()> {
     let b = full();
-    io::write_all(STDOUT, b"J");
-    say(b.len as u64);
+    print!(rt; "J")?;
+    say(rt, b.len as u64)?;
     let mut out = [0u8; 68];
     let new = submit(256);
     let s = board::step(b, &new, &mut out);
-    say(s.answer as u64);
-    say(s.frames as u64);
+    say(rt, s.answer as u64)?;
+    say(rt, s.frames as u64)?;
     let held = submit(255);
     let t = board::step(b, &held, &mut out);
-    say(t.answer as u64);
-    say(t.frames as u64);
-    show(&out);
+    say(rt, t.answer as u64)?;
+    say(rt, t.frames as u64)?;
+    show(rt, &out)
 }
 
-fn main() {
+fn main(rt: HostRuntime) -> io::Result<()> {
     let mut out = [0u8; 68];
     let mut again = [0u8; 68];
     let d = play_d(&mut out, &mut again);
@@ -174,16 +173,16 @@ fn main() {
     check::expect(d.first == 0);
     check::expect(d.second == 0);
     check::expect(d.entries == 1);
-    io::write_all(STDOUT, b"B");
-    say(d.b as u64);
-    io::write_all(STDOUT, b"\nC");
-    say(d.c as u64);
-    io::write_all(STDOUT, b"\nD");
-    say(d.first as u64);
-    show(&out);
-    io::write_all(STDOUT, b"D");
-    say(d.second as u64);
-    show(&again);
+    print!(rt; "B")?;
+    say(&rt, d.b as u64)?;
+    print!(rt; "\nC")?;
+    say(&rt, d.c as u64)?;
+    print!(rt; "\nD")?;
+    say(&rt, d.first as u64)?;
+    show(&rt, &out)?;
+    print!(rt; "D")?;
+    say(&rt, d.second as u64)?;
+    show(&rt, &again)?;
     let f = play_f();
     check::expect(f.first == 0);
     check::expect(f.waiting == 0);
@@ -192,38 +191,36 @@ fn main() {
     check::expect(f.exe2);
     check::expect(f.second == 0);
     check::expect(f.taken == 3);
-    io::write_all(STDOUT, b"F");
-    say(f.first as u64);
-    say(f.waiting as u64);
-    say(f.second as u64);
-    say(f.taken as u64);
+    print!(rt; "F")?;
+    say(&rt, f.first as u64)?;
+    say(&rt, f.waiting as u64)?;
+    say(&rt, f.second as u64)?;
+    say(&rt, f.taken as u64)?;
     let i = play_i();
     check::expect(i.first == 0);
     check::expect(i.second == 7);
-    io::write_all(STDOUT, b"\nI");
-    say(i.first as u64);
-    say(i.second as u64);
-    io::write_all(STDOUT, b"\n");
-    play_j();
+    print!(rt; "\nI")?;
+    say(&rt, i.first as u64)?;
+    say(&rt, i.second as u64)?;
+    println!(rt)?;
+    play_j(&rt)
 }
 
-fn say(n: u64) {
-    io::write_all(STDOUT, b" ");
-    io::print_decimal(STDOUT, n);
+fn say(rt: &impl Print, n: u64) -> io::Result<()> {
+    print!(rt; " {n}")
 }
 
-fn hex(x: u8) {
-    io::write_all(STDOUT, b" ");
-    io::print_hex(STDOUT, x as u64, 2);
+fn hex(rt: &impl Print, x: u8) -> io::Result<()> {
+    print!(rt; " {x:02x}")
 }
 
 // The first 18 bytes, a Forward of one operation.
-fn show(out: &[u8; 68]) {
-    io::write_all(STDOUT, b":");
+fn show(rt: &impl Print, out: &[u8; 68]) -> io::Result<()> {
+    print!(rt; ":")?;
     let mut i: usize = 0;
     while i < 18 {
-        hex(out[i]);
+        hex(rt, out[i])?;
         i += 1;
     }
-    io::write_all(STDOUT, b"\n");
+    println!(rt)
 }

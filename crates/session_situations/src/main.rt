@@ -3,8 +3,7 @@
 
 use frames::{Frame, Head};
 use session::{Asked, Operations, Responded, Session};
-
-const STDOUT: i32 = 1;
+use std::io;
 
 // What an invocation gave: the answer, the number, and the ack that stands in Submit.
 #[derive(Clone, Copy)]
@@ -61,51 +60,50 @@ fn answer(s: Session, number: u16) -> Responded {
     session::response(s, &bytes)
 }
 
-fn say(n: u16) {
-    io::write_all(STDOUT, b" ");
-    io::print_decimal(STDOUT, n as u64);
+fn say(rt: &impl Print, n: u16) -> io::Result<()> {
+    print!(rt; " {n}")
 }
 
-fn end_line() {
-    io::write_all(STDOUT, b"\n");
+fn end_line(rt: &impl Print) -> io::Result<()> {
+    println!(rt)
 }
 
 // "numbers 0..7 invoked, 1..7 answered: invoke gives 9. Then 0 answered: number 8 goes out with ack 8."
-fn play_h() {
+fn play_h(rt: &impl Print) -> io::Result<()> {
     let started = session::start(3);
     let mut s = started.session;
-    io::write_all(STDOUT, b"H");
+    print!(rt; "H")?;
     let mut i: u16 = 0;
     while i < 8 {
         let a = invoke(s);
         s = a.session;
-        say(a.answer as u16);
+        say(rt, a.answer as u16)?;
         i = i + 1;
     }
     let mut k: u16 = 1;
     while k < 8 {
         let b = answer(s, k);
         s = b.session;
-        say(b.reply.answer as u16);
+        say(rt, b.reply.answer as u16)?;
         k = k + 1;
     }
     let full = invoke(s);
     let t = full.session;
-    say(full.answer as u16);
+    say(rt, full.answer as u16)?;
     let b = answer(t, 0);
     let u = b.session;
     let goes = invoke(u);
-    say(goes.answer as u16);
-    say(goes.number);
-    say(goes.ack);
-    end_line();
+    say(rt, goes.answer as u16)?;
+    say(rt, goes.number)?;
+    say(rt, goes.ack)?;
+    end_line(rt)
 }
 
 // "number 65,534 goes; the next invoke gives 10": every number before it is invoked and answered.
-fn play_k() {
+fn play_k(rt: &impl Print) -> io::Result<()> {
     let started = session::start(3);
     let mut s = started.session;
-    io::write_all(STDOUT, b"K");
+    print!(rt; "K")?;
     let mut i: u16 = 0;
     while i < 65534 {
         let a = invoke(s);
@@ -116,15 +114,15 @@ fn play_k() {
     }
     let last = invoke(s);
     let t = last.session;
-    say(last.answer as u16);
-    say(last.number);
-    say(last.ack);
+    say(rt, last.answer as u16)?;
+    say(rt, last.number)?;
+    say(rt, last.ack)?;
     let over = invoke(t);
-    say(over.answer as u16);
-    end_line();
+    say(rt, over.answer as u16)?;
+    end_line(rt)
 }
 
-fn main() {
-    play_h();
-    play_k();
+fn main(rt: HostRuntime) -> io::Result<()> {
+    play_h(&rt)?;
+    play_k(&rt)
 }

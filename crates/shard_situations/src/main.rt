@@ -5,7 +5,7 @@
 ghost use Rattle.std.specs.Prelude.{◌≡◌, ◌++◌, drop};
 ghost use Rattle.shard_situations.specs.Expected.{answers_e, sent_g};
 
-const STDOUT: i32 = 1;
+use std::io;
 
 #[derive(Clone, Copy)]
 struct Answers {
@@ -47,32 +47,31 @@ fn play_g(out: &mut [u8; 68]) -> u8
     a.answer
 }
 
-fn main() {
+fn main(rt: HostRuntime) -> io::Result<()> {
     let e = play_e();
     check::expect(e.first == 4);
     check::expect(e.second == 0);
     check::expect(e.third == 7);
-    io::write_all(STDOUT, b"E");
-    say(e.first);
-    say(e.second);
-    say(e.third);
+    print!(rt; "E")?;
+    say(&rt, e.first)?;
+    say(&rt, e.second)?;
+    say(&rt, e.third)?;
     let mut out = [0u8; 68];
     let answer = play_g(&mut out);
     check::expect(answer == 0);
     check::expect(out[8] == 1);
     check::expect(out[9] == 1);
     check::expect(out[10] == 7);
-    io::write_all(STDOUT, b"\nG");
-    say(answer);
+    print!(rt; "\nG")?;
+    say(&rt, answer)?;
     let mut i = 0;
     while i < 14 {
-        say(out[i]);
+        say(&rt, out[i])?;
         i += 1;
     }
-    io::write_all(STDOUT, b"\n");
+    println!(rt)
 }
 
-fn say(n: u8) {
-    io::write_all(STDOUT, b" ");
-    io::print_decimal(STDOUT, n as u64);
+fn say(rt: &impl Print, n: u8) -> io::Result<()> {
+    print!(rt; " {n}")
 }

@@ -3,9 +3,11 @@
 // 1: they are refused. 9: something of that fails.
 #![tactic(auto)]
 
-ghost use Rattle.std.specs.Prelude.{◌≤◌, length};
+ghost use Rattle.std.specs.Prelude.{◌≤◌, length, IfOk};
 
 use frames::{Frame, Head};
+use std::io;
+use std::io::Read;
 
 // ---- One vector
 
@@ -179,35 +181,53 @@ fn line_end(text: &[u8], at: usize) -> usize
 }
 
 // One line; returns where the next begins.
-fn line(text: &[u8]) -> usize
-    ensures { result ≤ length text.now }
+fn line(rt: &impl Print, text: &[u8]) -> io::Result<usize>
+    ensures { IfOk result (λ end. end ≤ length text.now) }
 {
     let digits = digits_end(text);
     let end = line_end(text, digits);
     let start = 0;
-    io::print_decimal(1, vector(&text[start..digits]) as u64);
-    io::write_all(1, &text[digits..end]);
-    end
+    let answered = vector(&text[start..digits]);
+    print!(rt; "{answered}")?;
+    rt.write_all(&text[digits..end])?;
+    Ok(end)
 }
 
-fn lines(text: &[u8]) {
+fn lines(rt: &impl Print, text: &[u8]) -> io::Result<()> {
     let mut at = 0;
     while at < text.len() {
-        let count = line(&text[at..]);
+        let count = line(rt, &text[at..])?;
         if count == 0 {
-            return;
+            return Ok(());
         }
         at += count;
     }
+    Ok(())
 }
 
-fn run(all: &mut [u8]) {
+// As many bytes of the input as there are, or as find room. How many.
+fn read_full(from: &mut impl Read, all: &mut [u8]) -> io::Result<usize>
+    ensures { IfOk result (λ count. count ≤ length all.new) }
+{
+    let mut count = 0;
+    while count < all.len() {
+        let got = from.read(&mut all[count..])?;
+        if got == 0 {
+            return Ok(count);
+        }
+        count += got;
+    }
+    Ok(count)
+}
+
+fn run(rt: &impl Print, from: &mut impl Read, all: &mut [u8]) -> io::Result<()> {
     let start = 0;
-    let count = io::read_full(0, all);
-    lines(&all[start..count]);
+    let count = read_full(from, all)?;
+    lines(rt, &all[start..count])
 }
 
-fn main() {
-    let mut space = io::large_buffer();
-    run(&mut space);
+fn main(rt: HostRuntime) -> io::Result<()> {
+    let mut space = [0u8; 65536];
+    let mut input = rt.stdin();
+    run(&rt, &mut input, &mut space)
 }
