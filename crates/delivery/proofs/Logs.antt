@@ -7,7 +7,7 @@ use native.Mathlib.Omega.{arith}
 use mir.Val.{Val}
 use denote.Laws.{Is}
 use denote.Struct.Laws as LL
-use lib.ListN.{length, take, drop, get_or, length-map, drop_of_length-le}
+use lib.ListN.{length, take, drop, get_or, drop_of_length-le}
 use lib.Seq.{length-take-le}
 use borrow.Author.Tests.{le-leb, lt-leb}
 use Rattle.rules.specs.Lists.{If◌then◌else◌}
@@ -24,7 +24,7 @@ use Rattle.delivery.proofs.Area.{Grown, lined, ungrown, grows, more_text, stands
 
 -- a board's log has 256 places
 pub places : (b : Board) (vs : List Val) → Is T.the_row b vs → length b.log ≡ 256
-places b vs is = sym (length-map b.log _) ∙ (LL.owed T.the_type T'.the_laws b vs is).0.1.0.1
+places b vs is = (LL.owed T.the_type T'.the_laws b vs is).0.1.0.1
 
 -- what the loop keeps: the lines of the entries that were passed stand, and those of the others are ahead
 pub record Logged (board : ℕ) (log : List Entry) (len : ℕ) (l₀ : List ℕ) (k : ℕ) (l : List ℕ) (written : ℕ) : Type 0 where

@@ -172,6 +172,15 @@ module _ (input : List ℕ) (taken : ℕ) (next : Next) (inside : taken ≤ leng
       ended Need p = tt
       ended Cut p = tt
 
+  -- the same of a value that is told to be no record
+  pub none_left_by : ((address end : ℕ) → next ≡ Record address end → ⊥) → Ended (next_of (drop taken input))
+  none_left_by o = rw left at (ended next o)
+    where
+      ended : (x : Next) → ((address end : ℕ) → x ≡ Record address end → ⊥) → Ended x
+      ended (Record address end) p = p address end refl
+      ended Need p = tt
+      ended Cut p = tt
+
 module _ {r₀ : Register} {first : ℕ} {input l₀ : List ℕ} {r : Register} {index taken : ℕ} {l : List ℕ} {written : ℕ} (k : Kept r₀ first input l₀ r index taken l written) where
   abbrev pub ready :
       (next : Next) → next ≡ next_of (take (length input - taken) (drop taken input)) → (address end : ℕ) → next ≡ Record address end →
