@@ -20,11 +20,9 @@ use Rattle.session.specs.declared.Session.{Session}
 use Rattle.session.specs.Model.{started_of, invoked_of, invoke_out, retried_of, retry_out, responded_of}
 use Rattle.session.specs.View.{view_session}
 use Rattle.session.proofs.Means as Sessions
-use Rattle.board.specs.declared.Board.{Board}
 use Rattle.board.specs.Model as Boards
 use Rattle.board_means.specs.View.{view_board}
 use Rattle.board_means.proofs.Means as Boards'
-use Rattle.shard.specs.declared.Shard.{Shard}
 use Rattle.shard.specs.Model as Shards
 use Rattle.shard.specs.View.{view_shard}
 use Rattle.shard.proofs.Promises as Shards'
