@@ -12,7 +12,7 @@
  * it. Every other call asks that the record comes from a start and calls of its own kind; to hand in anything else, or to change a field,
  * voids the promises. Fields may be read. A record has no pointer in it and may be copied as a whole.
  *
- * Stack. A call works on copies of the record. board_step takes about 62,500 bytes of stack, board_start 52,000, shard_step 4,700, each
+ * Stack. A call works on copies of the record. board_step takes about 63,600 bytes of stack, board_start 50,000, shard_step 4,700, each
  * other call less than 2,200. That is measured (tests/c/stack.c), not proved: the proofs know no stack that runs out.
  *
  * Slices. A pointer and the number of bytes it points at. It must not be null, also where the number is 0. A frame, an out area and a
