@@ -5,7 +5,7 @@
 // Each promise is whole, for every input and every value of a record: the answer, the record at exit and every byte of the out area
 // at exit. Beside it stands what that means in the rules' words, of a record that starts and calls have made (Held); and the promise once
 // more as a relation over memory before and after (specs/Promised.antt), of which proofs/Fresh.antt shows that a start depends on its setup
-// alone. include/register.h has the functions for C, and proofs/InMemory.antt how the records lie.
+// alone. Crate register_c exports the functions for C (include/register.h), and proofs/InMemory.antt has how the records lie.
 #![tactic(auto)]
 
 ghost use Rattle.std.specs.Prelude.{◌≡◌, length};
@@ -29,6 +29,17 @@ pub struct Stepped {
     pub answer: u8,
     pub frames: u8,
     pub bytes: usize,
+}
+
+// What each function below does, whatever its callee is: the record goes to the callee by value, what the callee leaves of it is stored back, and
+// what stood beside it is the answer. So what the callee ensures of the two holds of the lent record and the answer.
+fn thin<T: Copy, A, F: FnOnce(T) -> (T, A)>(lent: &mut T, callee: F) -> A
+    requires { F.pre callee lent.old }
+    ensures { F.post callee lent.old (lent.new, result) }
+{
+    let (next, answer) = callee(*lent);
+    *lent = next;
+    answer
 }
 
 // ---- A client session
