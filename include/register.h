@@ -12,8 +12,8 @@
  * it. Every other call asks that the record comes from a start and calls of its own kind; to hand in anything else, or to change a field,
  * voids the promises. Fields may be read. A record has no pointer in it and may be copied as a whole.
  *
- * Stack. A call works on copies of the record. board_step takes about 63,600 bytes of stack, board_start 50,000, shard_step 4,700, each
- * other call less than 2,200. That is measured (tests/c/stack.c), not proved: the proofs know no stack that runs out.
+ * Stack. A call changes the record where it lies. board_step takes about 750 bytes of stack, each other call less than 450. That is
+ * measured (tests/c/stack.c), not proved: the proofs know no stack that runs out.
  *
  * Slices. A pointer and the number of bytes it points at. It must not be null, also where the number is 0. A frame, an out area and a
  * record that are lent to one call must not overlap. An out area may be longer than 68 bytes.
@@ -53,7 +53,7 @@ enum {
     REGISTER_WINDOW = 8,            /* a client's window: 8 numbers */
     REGISTER_OUT = 68,              /* an out area must have at least 68 bytes; no step sends more */
     REGISTER_FRAME = 38,            /* the longest frame, its length field included: ShardAppend with four operations */
-    REGISTER_STACK = 65536          /* the stack that a call takes, at most: measured on x86-64, not proved */
+    REGISTER_STACK = 1024           /* the stack that a call takes, at most: measured on x86-64, not proved */
 };
 
 /* ---- Answers */

@@ -14,20 +14,17 @@ use std::io;
 use std::io::Read;
 
 fn put(rt: &impl Print, text: &[u8], count: usize) -> io::Result<()> {
-    if count <= text.len() {
-        return rt.write_all(&text[..count]);
+    match text.get(..count) {
+        Some(front) => rt.write_all(front),
+        None => Ok(()),
     }
-    Ok(())
 }
 
 // What one read gives: how many bytes, none at the end of the input or where the read fails.
 fn read_once(source: &mut impl Read, input: &mut [u8]) -> usize
     ensures { result ≤ length input.new }
 {
-    match source.read(input) {
-        Ok(count) => count,
-        Err(_) => 0,
-    }
+    source.read(input).unwrap_or(0)
 }
 
 // The first two bytes of the input, or as many of them as there are. How many.
@@ -38,7 +35,7 @@ fn read_head(source: &mut impl Read, head: &mut [u8]) -> usize
     while got < head.len() {
         let more = read_once(source, &mut head[got..]);
         if more == 0 {
-            return got;
+            break;
         }
         got += more;
     }
@@ -56,73 +53,54 @@ fn read_behind(source: &mut impl Read, input: &mut [u8], kept: usize) -> usize
 }
 
 // Records are read and delivered until the input ends or is cut. A proved loop has to end, and nothing says that the input does: the turns are counted
-// down from a number that no run reaches.
+// up to a number that no run reaches.
 fn run(
     rt: &impl Print,
     source: &mut impl Read,
-    start: Register,
+    register: &mut Register,
     input: &mut [u8],
     text: &mut [u8],
-) -> io::Result<Register> {
-    let mut register = start;
-    let mut index: u64 = 0;
-    let mut from: usize = 0;
-    let mut end: usize = 0;
-    let mut turns: u64 = u64::MAX;
-    while 0 < turns {
-        turns -= 1;
+) -> io::Result<()> {
+    let mut index = 0;
+    let mut from = 0;
+    let mut end = 0;
+    for _ in 0..u64::MAX {
         let d = delivery::deliver(register, index, &input[from..end], text);
-        let next = d.register;
-        register = next;
         index = d.index;
         from += d.taken;
         put(rt, text, d.written)?;
-        let stands = records::record_at(&input[from..end]);
-        match stands {
+        match records::record_at(&input[from..end]) {
             // The text was full: there is more to deliver.
-            Next::Record { address: _, end: _ } => {
-                continue;
-            }
+            Next::Record { .. } => {}
             Next::Need => {
                 let kept = records::to_front(input, from, end);
                 from = 0;
                 end = read_behind(source, input, kept);
-                if kept < end {
-                    continue;
+                if end <= kept {
+                    if kept > 0 {
+                        put_cut(rt, text)?;
+                    }
+                    break;
                 }
-                if kept == 0 {
-                    return Ok(register);
-                }
-                put_cut(rt, text)?;
-                return Ok(register);
             }
             Next::Cut => {
                 put_cut(rt, text)?;
-                return Ok(register);
+                break;
             }
         }
     }
-    Ok(register)
+    Ok(())
 }
 
 fn put_cut(rt: &impl Print, text: &mut [u8]) -> io::Result<()> {
-    let k = lines::cut_line(text);
-    put(rt, text, k)
+    let count = lines::cut_line(text);
+    put(rt, text, count)
 }
 
-fn put_logs(rt: &impl Print, r: Register, text: &mut [u8]) -> io::Result<()> {
-    let n = r.n;
-    let boards = r.boards;
-    let mut i: u8 = 0;
-    while i < n {
-        if 8 <= i {
-            return Ok(());
-        }
-        let at = i as usize;
-        let b = boards[at];
-        i += 1;
-        let k = delivery::log_lines(i, b, text);
-        put(rt, text, k)?;
+fn put_logs(rt: &impl Print, r: &Register, text: &mut [u8]) -> io::Result<()> {
+    for (i, board) in r.boards.iter().take(r.n as usize).enumerate() {
+        let count = delivery::log_lines(i as u8 + 1, board, text);
+        put(rt, text, count)?;
     }
     Ok(())
 }
@@ -135,24 +113,23 @@ fn bench(
     input: &mut [u8],
     text: &mut [u8],
 ) -> io::Result<()> {
-    let k = lines::header(n, m, text);
-    put(rt, text, k)?;
-    let start = delivery::start(n, m);
-    let end = run(rt, source, start, input, text)?;
-    put_logs(rt, end, text)
+    let count = lines::header(n, m, text);
+    put(rt, text, count)?;
+    let mut register = Register::start(n, m);
+    run(rt, source, &mut register, input, text)?;
+    put_logs(rt, &register, text)
 }
 
 fn main(rt: HostRuntime) -> io::Result<()> {
     let mut source = rt.stdin();
-    let mut head = [0u8; 2];
-    let mut input = [0u8; 65536];
-    let mut text = [0u8; 65536];
+    let mut head = [0; 2];
+    let mut input = [0; 65536];
+    let mut text = [0; 65536];
     let got = read_head(&mut source, &mut head);
-    if 2 <= got {
-        if records::usable(head[0], head[1]) {
-            return bench(&rt, &mut source, head[0], head[1], &mut input, &mut text);
-        }
+    let [n, m] = head;
+    if got == 2 && records::usable(n, m) {
+        return bench(&rt, &mut source, n, m, &mut input, &mut text);
     }
-    let k = lines::setup_line(&mut text);
-    put(&rt, &text, k)
+    let count = lines::setup_line(&mut text);
+    put(&rt, &text, count)
 }

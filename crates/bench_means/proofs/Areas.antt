@@ -13,8 +13,7 @@ use Rattle.lines.specs.Area.{laid, taken}
 use Rattle.records.specs.Front.{part_length, front_of}
 use Rattle.frames.specs.View.{Bytes}
 use Rattle.delivery.specs.declared.Register.{Register}
-use Rattle.delivery.specs.declared.Delivered.{Delivered}
-use Rattle.delivery.specs.Delivery.{standing, delivered, delivered_of}
+use Rattle.delivery.specs.Delivery.{Delivered, standing, delivered, delivered_of}
 use Rattle.bench_means.specs.Transcript.{Park}
 use Rattle.bench_means.specs.View.{Means, Done}
 use Rattle.bench_means.proofs.Deliveries.{delivered_means}

@@ -7,15 +7,25 @@ use Prim.Native.Nat.{ℕ, ◌<◌}
 use native.Mathlib.Omega.{arith}
 use lib.Dec.{leb, leb→le}
 use lib.ListN.{length, replicate}
-use Rattle.rules.specs.Lists.{within}
+use Rattle.rules.specs.Lists.{If◌then◌else◌, within}
 use Rattle.rules.specs.Answers.{not_usable}
 use Rattle.rules.proofs.Lists.{by, and_r}
 use Rattle.entry.specs.Model.{no_entry}
 use Rattle.send.specs.Model.{bytes_of, laid}
 use Rattle.board.specs.declared.Board.{Board}
-use Rattle.board.specs.declared.Started.{Started}
-use Rattle.board.specs.declared.Stepped.{Stepped}
-use Rattle.board.specs.Model.{empty_board, in_range, start_of, Outcome, taken_step, judged_step, frame_step, outcome, stepped_of, step_of, out_of}
+use Rattle.board.specs.Model.{Started, Stepped, empty_board, in_range, start_of, Outcome, taken_step, judged_step, frame_step, outcome, stepped_of, step_of, out_of}
+
+-- ---- unstarted
+
+-- an entry in it
+pub unstarted_log : ((empty_board 0 0 0 false).len ≡ 0) × ((empty_board 0 0 0 false).log ≡ replicate 256 no_entry)
+unfolding empty_board
+unstarted_log = (refl, refl)
+
+-- a step that it takes
+pub unstarted_refuses : (bytes : List ℕ) (room : ℕ) → (step_of (empty_board 0 0 0 false) bytes room).answer ≡ not_usable
+unfolding step_of outcome empty_board If◌then◌else◌
+unstarted_refuses bytes room = refl
 
 -- ---- start
 

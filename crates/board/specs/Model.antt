@@ -1,7 +1,7 @@
 -- What a start and a step give, on the records as they lie: the answer, every field and element of the board, the frames sent and
 -- every byte of the out area, for every input. What it means in the rules' words is in View.
 -- Assumes nothing.
-use Rattle.std.specs.Prelude.{Bool, true, false, ◌&&◌, List, [], ◌∷◌, ℕ, suc, ◌+◌, ◌*◌, ◌%◌, max, length, get_or, set, take, replicate}
+use Rattle.std.specs.Prelude.{Bool, true, false, ◌&&◌, List, [], ◌∷◌, ℕ, suc, ◌+◌, ◌*◌, ◌%◌, max, length, get_or, set, take, replicate, Result, Ok, Err}
 use Rattle.rules.specs.Lists.{If◌then◌else◌, ◌<?◌, ◌=?◌, within}
 use Rattle.rules.specs.Answers.{done, not_usable}
 use Rattle.rules.specs.Outcomes.{unusable}
@@ -14,11 +14,34 @@ use Rattle.entry.specs.Model.{is_empty_of, touched_of, no_entry}
 use Rattle.queue.specs.declared.Queue.{Queue}
 use Rattle.queue.specs.Model.{no_queue, changed_all}
 use Rattle.send.specs.Model.{send_parts, bytes_of, laid}
-use Rattle.verdict.specs.declared.Verdict.{Verdict}
-use Rattle.verdict.specs.Model.{next_of, floor_of, judge_of}
+use Rattle.refusal.specs.declared.Refusal.{Refusal}
+use Rattle.refusal.specs.Number.{number_of, answer_of}
+use Rattle.send.specs.declared.Sent.{Sent}
+use Rattle.verdict.specs.Model.{Verdict, next_of, floor_of, judge_of}
 use Rattle.board.specs.declared.Board.{Board}
-use Rattle.board.specs.declared.Started.{Started}
-use Rattle.board.specs.declared.Stepped.{Stepped}
+
+-- ---- What a start and a step hand back
+
+-- the board then, and the answer
+pub record Started : Type 0 where
+  pub board : Board
+  pub answer : ℕ
+
+-- the board then, the answer, and "the counts of frames and bytes"
+pub record Stepped : Type 0 where
+  pub board : Board
+  pub answer : ℕ
+  pub frames : ℕ
+  pub bytes : ℕ
+
+-- what a start's result shows
+abbrev pub started_of : {A : Type 0} → Board → Result A Refusal → Started
+started_of b result = record { board = b; answer = answer_of result }
+
+-- what a step's result shows: "Answer 0 means the step was taken"; of a refusal the counts are 0
+abbrev pub shown : Board → Result Sent Refusal → Stepped
+shown b (Ok sent) = record { board = b; answer = done; frames = sent.frames; bytes = sent.bytes }
+shown b (Err refusal) = record { board = b; answer = number_of refusal; frames = 0; bytes = 0 }
 
 -- ---- Start
 
@@ -137,7 +160,7 @@ judged_step b ind v room = If v.answer =? 0 then taken_step b ind v room else re
 -- the verdict on a frame that is about a log number
 unfoldable pub verdict_of : Board → Frame → ℕ → Verdict
 verdict_of b f ind =
-    judge_of f.head f.count f.items b.n b.m b.own b.floor b.next b.len (ind <? b.len) (entry_at b.log ind)
+    judge_of f.head f.list.count f.list.items b.n b.m b.own b.floor b.next b.len (ind <? b.len) (entry_at b.log ind)
 
 unfoldable pub frame_step : Board → Frame → ℕ → ℕ → Outcome
 frame_step b f ind room = judged_step b ind (verdict_of b f ind) room

@@ -1,22 +1,23 @@
-// A board: its state by value, its start, and its step on a frame's bytes with an out area of any length.
+// A board: its state, its start, and its step on a frame's bytes with an out area of any length.
 //
-// `step` owns the board from its first line to its last. It hands the functions below only small parts (a frame's head, an entry, a
-// column of the log, the floors, the queues) and stores what they hand back in place: a call that takes or returns a Board copies
-// all of it. What a frame comes to, the refusals in the order of 01's table, is decided in the crate verdict.
+// `start` and `step` change the board in place. What a frame comes to, the refusals in the order of 01's table, is decided in the crate
+// verdict, on small parts of the board that are lent to it; `step` stores what it says.
 //
 // Each function's result is determined for every input by a function of specs/Model.antt. What a start and a step mean in the
 // rules' words is stated and proved in the crate board_means.
 #![tactic(auto)]
 
-ghost use Rattle.std.specs.Prelude.{◌≡◌, ◌<◌, max, length, take};
-ghost use Rattle.board.specs.Model.{empty_board, in_range, start_of, slot_of, name_of, position_of, place_of, followed_of, raised_of, queues_after, frames_of, step_of, out_of};
+ghost use Rattle.std.specs.Prelude.{◌≡◌, ◌<◌, ◌==◌, false, OnErr, length, position, take};
+ghost use Rattle.board.specs.Model.{started_of, shown, empty_board, in_range, start_of, slot_of, name_of, place_of, followed_of, raised_of, frames_of, step_of, out_of};
 ghost use Rattle.frames.specs.View.{Bytes};
 ghost use Rattle.send.specs.Model.{Sends};
 
 use entry::Entry;
 use frames::{Head, LogNumber};
 use queue::Queue;
+use refusal::Refusal;
 use send::Sent;
+use verdict::Change;
 
 // "Its log has entries ..", the first len of log: an entry's log number is its place. names and touched are columns of the log, each
 // entry's client and number in one word and its shards as a mask: find and count look at these and not at the whole log. Per client:
@@ -37,76 +38,16 @@ pub struct Board {
     pub started: bool,
 }
 
-#[derive(Clone, Copy)]
-pub struct Started {
-    pub board: Board,
-    pub answer: u8,
-}
-
-#[derive(Clone, Copy)]
-pub struct Stepped {
-    pub board: Board,
-    pub answer: u8,
-    pub frames: u8,
-    pub bytes: usize,
-}
-
-// ---- Start
-
-fn empty(n: u8, m: u8, own: u8, started: bool) -> Board
-    ensures { result ≡ empty_board n m own started }
-{
-    let e = entry::no_entry();
-    let q = queue::no_queue();
-    let log = [e; 256];
-    let names = [0u32; 256];
-    let touched = [0u8; 256];
-    let next = [0u32; 16];
-    let floor = [0u16; 16];
-    let queues = [q; 8];
-    Board {
-        log: log,
-        len: 0,
-        names: names,
-        touched: touched,
-        next: next,
-        floor: floor,
-        queues: queues,
-        n: n,
-        m: m,
-        own: own,
-        started: started,
-    }
-}
-
 // "Boards n: 2..8 .. Shard groups m: 1..8"; the own number is 1..n
+#[tactic(auto, unfolding(crate::specs::Model::in_range))]
 fn in_range(n: u8, m: u8, own: u8) -> bool
     ensures { result ≡ in_range n m own }
 {
-    ((2 <= n) & (n <= 8)) & ((1 <= m) & (m <= 8)) & ((1 <= own) & (own <= n))
+    (2..=8).contains(&n) && (1..=8).contains(&m) && (1..=n).contains(&own)
 }
-
-// "A refused start hands back an empty state marked as not started."
-pub fn start(n: u8, m: u8, own: u8) -> Started
-    ensures { result ≡ start_of n m own }
-{
-    if !in_range(n, m, own) {
-        let b = empty(0, 0, 0, false);
-        return Started {
-            board: b,
-            answer: 11,
-        };
-    }
-    let b = empty(n, m, own, true);
-    Started {
-        board: b,
-        answer: 0,
-    }
-}
-
-// ---- The log, by log number and by client
 
 // Where an entry lies.
+#[tactic(auto, unfolding(crate::specs::Model::slot_of))]
 fn slot_of(log_number: LogNumber) -> usize
     ensures { (result ≡ slot_of log_number) × (result < 256) }
 {
@@ -114,209 +55,187 @@ fn slot_of(log_number: LogNumber) -> usize
 }
 
 // A client's number in one word.
+#[tactic(auto, unfolding(crate::specs::Model::name_of))]
 fn name_of(client: u8, number: u16) -> u32
     ensures { result ≡ name_of client number }
 {
     (client as u32) * 65536 + number as u32
 }
 
-// The log number under which a client's number is held; the log's length where it is not held.
-fn find(names: [u32; 256], len: LogNumber, client: u8, number: u16) -> LogNumber
-    ensures { result ≡ position_of (name_of client number) (take len names) }
+// "Floor becomes the larger of floor and ack." By index: of what `get_mut` lends, the proof knows no element afterwards.
+#[tactic(auto, unfolding(crate::specs::Model::raised_of))]
+fn raise(floor: &mut [u16; 16], client: u8, ack: u16)
+    ensures { floor.new ≡ raised_of floor.old client ack }
 {
-    let name = name_of(client, number);
-    let mut log_number: LogNumber = 0;
-    while log_number < len {
-        let at = log_number as usize;
-        if 256 <= at {
-            return log_number;
-        }
-        if names[at] == name {
-            return log_number;
-        }
-        log_number += 1;
+    let at = client as usize;
+    if at < 16 {
+        floor[at] = floor[at].max(ack);
     }
-    log_number
 }
 
-// The log number that a frame is about: the one that it names; of a Submit the one under which its number is held, or is to be.
-fn place_of(h: Head, next: [u32; 16], names: [u32; 256], len: LogNumber) -> LogNumber
-    ensures { result ≡ place_of h next names len }
+// high, "the largest number in the log", is now the number of an entry that is new. The flag is tested here, so that `step` has no branch between
+// its writes.
+#[tactic(auto, unfolding(verdict::specs::Model::choosing, crate::specs::Model::followed_of))]
+fn follow(next: &mut [u32; 16], fresh: bool, client: u8, number: u16)
+    ensures { next.new ≡ followed_of next.old fresh client number }
 {
-    match h {
-        Head::Bad => len,
-        Head::Submit {
-            client,
-            number,
-            ack: _,
-        } => {
-            if (number as u32) < verdict::next_of(next, client) {
-                find(names, len, client, number)
-            } else {
-                len
+    let at = client as usize;
+    if fresh && at < 16 {
+        next[at] = number as u32 + 1;
+    }
+}
+
+impl Board {
+    // ---- Start
+
+    // An empty state that is not started.
+    #[tactic(auto, unfolding(crate::specs::Model::empty_board))]
+    pub fn unstarted() -> Board
+        ensures { result ≡ empty_board 0 0 0 false }
+    {
+        Board {
+            log: [entry::no_entry(); 256],
+            len: 0,
+            names: [0; 256],
+            touched: [0; 256],
+            next: [0; 16],
+            floor: [0; 16],
+            queues: [queue::no_queue(); 8],
+            n: 0,
+            m: 0,
+            own: 0,
+            started: false,
+        }
+    }
+
+    // The same in place: `*self = Board::unstarted()` makes the board elsewhere first, so that a start takes 24,000 bytes of stack in place
+    // of 240.
+    #[tactic(auto, unfolding(crate::specs::Model::empty_board))]
+    fn clear(&mut self)
+        ensures { self.new ≡ empty_board 0 0 0 false }
+    {
+        self.log = [entry::no_entry(); 256];
+        self.len = 0;
+        self.names = [0; 256];
+        self.touched = [0; 256];
+        self.next = [0; 16];
+        self.floor = [0; 16];
+        self.queues = [queue::no_queue(); 8];
+        self.n = 0;
+        self.m = 0;
+        self.own = 0;
+        self.started = false;
+    }
+
+    // Every field is written, whatever the board held before. "A refused start hands back an empty state marked as not started."
+    #[tactic(auto, unfolding(verdict::specs::Model::choosing, crate::specs::Model::start_of, crate::specs::Model::empty_board))]
+    pub fn start(&mut self, n: u8, m: u8, own: u8) -> Result<(), Refusal>
+        ensures { started_of self.new result ≡ start_of n m own }
+    {
+        self.clear();
+        if !in_range(n, m, own) {
+            return Err(Refusal::NotUsable);
+        }
+        self.n = n;
+        self.m = m;
+        self.own = own;
+        self.started = true;
+        Ok(())
+    }
+
+    // ---- The log, by log number and by client
+
+    // The log number under which a client's number is held, if it is.
+    fn find(&self, client: u8, number: u16) -> Option<usize>
+        ensures { result ≡ position (λ x. x == name_of client number) (take self.now.len self.now.names) }
+    {
+        let name = name_of(client, number);
+        self.names
+            .iter()
+            .take(self.len as usize)
+            .position(|x| *x == name)
+    }
+
+    // The log number that a frame is about: the one that it names; of a Submit the one under which its number is held, or is to be.
+    #[tactic(auto, unfolding(verdict::specs::Model::choosing, crate::specs::Model::place_of))]
+    fn place_of(&self, head: Head) -> LogNumber
+        ensures { result ≡ place_of head self.now.next self.now.names self.now.len }
+    {
+        match head {
+            Head::Submit { client, number, .. } => {
+                if (number as u32) < verdict::of_client(&self.next, client, 0) {
+                    self.find(client, number)
+                        .unwrap_or((self.len as usize).min(256)) as LogNumber
+                } else {
+                    self.len
+                }
             }
+            Head::Forward { log_number, .. }
+            | Head::ExecNotif { log_number, .. }
+            | Head::Executed { log_number } => log_number,
+            Head::Bad | Head::ShardAppend { .. } | Head::Response { .. } => self.len,
         }
-        Head::Forward {
+    }
+
+    // ---- The step
+
+    // The frames that the changed entry makes this board send, or none.
+    #[tactic(auto, unfolding(verdict::specs::Model::choosing, crate::specs::Model::frames_of, send::specs::Model::laid, send::specs::Model::bytes_of))]
+    fn sent(&self, change: &Change, log_number: LogNumber, out: &mut [u8]) -> Sent
+        ensures { Sends (frames_of change.now.sends change.now.entry self.now.n self.now.m self.now.own self.now.floor log_number self.now.touched (length out.old)) out.old out.new result }
+    {
+        if !change.sends {
+            return Sent::default();
+        }
+        let e = &change.entry;
+        let low = verdict::of_client(&self.floor, e.client, 0);
+        send::send_parts(
+            e,
+            self.n,
+            self.m,
+            self.own,
+            low,
             log_number,
-            client: _,
-            number: _,
-            ack: _,
-        } => log_number,
-        Head::ShardAppend {
-            shard: _,
-            log_number: _,
-            sn: _,
-        } => len,
-        Head::ExecNotif {
-            shard: _,
-            log_number,
-        } => log_number,
-        Head::Executed { log_number } => log_number,
-        Head::Response {
-            client: _,
-            number: _,
-        } => len,
+            &self.touched,
+            out,
+        )
     }
-}
 
-// ---- What a step changes
-
-fn larger(a: u16, b: u16) -> u16
-    ensures { result ≡ max a b }
-{
-    if a <= b { b } else { a }
-}
-
-// "Floor becomes the larger of floor and ack."
-fn raised(floor: [u16; 16], client: u8, ack: u16) -> [u16; 16]
-    ensures { result ≡ raised_of floor client ack }
-{
-    let mut r = floor;
-    let at = client as usize;
-    if 16 <= at {
-        return r;
-    }
-    r[at] = larger(r[at], ack);
-    r
-}
-
-// high, "the largest number in the log", is now the number of an entry that is new.
-fn followed(next: [u32; 16], fresh: bool, client: u8, number: u16) -> [u32; 16]
-    ensures { result ≡ followed_of next fresh client number }
-{
-    let mut r = next;
-    if !fresh {
-        return r;
-    }
-    let at = client as usize;
-    if 16 <= at {
-        return r;
-    }
-    r[at] = number as u32 + 1;
-    r
-}
-
-// A new entry is queued for each of the shards; an old one is taken up to on their queues.
-fn queues_after(queues: [Queue; 8], fresh: bool, shards: u8, log_number: LogNumber) -> [Queue; 8]
-    ensures { result ≡ queues_after queues fresh shards log_number }
-{
-    if entry::is_empty(shards) {
-        return queues;
-    }
-    queue::changed_all(queues, fresh, shards, log_number)
-}
-
-// The frames that the entry makes this board send, or none.
-fn sent(
-    sends: bool,
-    e: Entry,
-    n: u8,
-    m: u8,
-    own: u8,
-    floor: [u16; 16],
-    log_number: LogNumber,
-    touched: [u8; 256],
-    out: &mut [u8],
-) -> Sent
-    ensures { Sends (frames_of sends e n m own floor log_number touched (length out.old)) out.old out.new result }
-{
-    if !sends {
-        return Sent {
-            frames: 0,
-            bytes: 0,
-        };
-    }
-    let low = verdict::floor_of(floor, e.client);
-    send::send_parts(e, n, m, own, low, log_number, touched, out)
-}
-
-// ---- The step
-
-// 11: the start was refused, or the out area is under 68 bytes. Then the verdict: 1, 2 and the kind's own refusals; or what the frame
-// changes is stored, and what the entry now makes this board send is written. A refusal changes nothing and writes nothing. That a frame
-// is bytes is all that crate board_means asks of it.
-pub fn step(b: Board, frame: &[u8], out: &mut [u8]) -> Stepped
-    ensures value { (result ≡ step_of b frame.now (length out.old)) × (out.new ≡ out_of b frame.now out.old) }
-    ensures bytes { Bytes frame.now }
-{
-    let mut r = b;
-    let unusable = !r.started | (out.len() < 68);
-    if unusable {
-        return Stepped {
-            board: r,
-            answer: 11,
-            frames: 0,
-            bytes: 0,
-        };
-    }
-    let f = frames::read_frame(frame);
-    let head = f.head;
-    let items = f.items;
-    let len = r.len;
-    let next = r.next;
-    let floor = r.floor;
-    let names = r.names;
-    let log_number = place_of(head, next, names, len);
-    let slot = slot_of(log_number);
-    let old = r.log[slot];
-    let v = verdict::judge(
-        head,
-        f.count,
-        items,
-        r.n,
-        r.m,
-        r.own,
-        floor,
-        next,
-        len,
-        log_number < len,
-        old,
-    );
-    if v.answer != 0 {
-        return Stepped {
-            board: r,
-            answer: v.answer,
-            frames: 0,
-            bytes: 0,
-        };
-    }
-    let e = v.entry;
-    let operations = e.items;
-    r.log[slot] = e;
-    r.len = v.len;
-    r.names[slot] = name_of(e.client, e.number);
-    r.touched[slot] = entry::touched(r.m, e.count, operations);
-    r.next = followed(next, v.fresh, e.client, e.number);
-    r.floor = raised(floor, e.client, v.ack);
-    let queues = r.queues;
-    r.queues = queues_after(queues, v.fresh, v.shards, log_number);
-    let masks = r.touched;
-    let floors = r.floor;
-    let s = sent(v.sends, e, r.n, r.m, r.own, floors, log_number, masks, out);
-    Stepped {
-        board: r,
-        answer: 0,
-        frames: s.frames,
-        bytes: s.bytes,
+    // 11: the start was refused, or the out area is under 68 bytes. Then the verdict: 1, 2 and the kind's own refusals; or what the frame
+    // changes is stored, and what the entry now makes this board send is written. A refusal changes nothing and writes nothing. That a frame
+    // is bytes is all that crate board_means asks of it.
+    pub fn step(&mut self, frame: &[u8], out: &mut [u8]) -> Result<Sent, Refusal>
+        ensures value { (shown self.new result ≡ step_of self.old frame.now (length out.old)) × (out.new ≡ out_of self.old frame.now out.old) }
+        ensures bytes { Bytes frame.now }
+        ensures refusal { OnErr result ((self.new ≡ self.old) × (out.new ≡ out.old)) }
+    {
+        if !self.started || out.len() < 68 {
+            return Err(Refusal::NotUsable);
+        }
+        let f = frames::read_frame(frame);
+        let log_number = self.place_of(f.head);
+        let slot = slot_of(log_number);
+        let held = log_number < self.len;
+        let judged = verdict::judge(
+            f,
+            self.n,
+            self.m,
+            self.own,
+            &self.floor,
+            &self.next,
+            self.len,
+            held,
+            &self.log[slot],
+        );
+        let change = judged?;
+        let e = change.entry;
+        self.log[slot] = e;
+        self.len = change.len;
+        self.names[slot] = name_of(e.client, e.number);
+        self.touched[slot] = entry::touched(self.m, e.list());
+        follow(&mut self.next, change.fresh, e.client, e.number);
+        raise(&mut self.floor, e.client, change.ack);
+        queue::change_all(&mut self.queues, change.fresh, change.shards, log_number);
+        Ok(self.sent(&change, log_number, out))
     }
 }

@@ -15,10 +15,8 @@ use lib.ListN.{length, get_or, set, take, drop, replicate, length-take, length-s
 use lib.Seq.{get_or-set_same, get_or-set_other}
 use mir.Facts.{eqb_no}
 use Rattle.rules.specs.Lists.{If◌then◌else◌, at, snoc, changed}
-use Rattle.rules.specs.Transactions.{touched}
 use Rattle.rules.specs.Queue as Q
 use Rattle.rules.specs.Queue.{enqueue, take_up_to}
-use Rattle.rules.specs.Board as B
 use Rattle.rules.specs.Board.{writes, next_number, holding, on_queues, raise_floor, append, new_entry}
 use Rattle.rules.proofs.Lists.{by, at_lt, at_snoc_cases, at_set_cases}
 use Rattle.rules.proofs.Kept.{writes_snoc, writes_set}
@@ -33,8 +31,7 @@ use Rattle.queue.specs.Model.{changed_all}
 use Rattle.queue.specs.View.{view_queues, QueuesHeld, AllTidy}
 use Rattle.queue.proofs.Meaning.{pushed_view, taken_view, pushed_held, taken_held}
 use Rattle.queue.proofs.Determined.{changed_tidy}
-use Rattle.verdict.specs.declared.Verdict.{Verdict}
-use Rattle.verdict.specs.Model.{next_of, floor_of}
+use Rattle.verdict.specs.Model.{Verdict, next_of, floor_of}
 use Rattle.board.specs.declared.Board.{Board}
 use Rattle.board.specs.Model.{slot_of, blank, entry_at, name_of, raised_of, followed_of, queues_after, board_after}
 use Rattle.board_means.specs.View.{entries_of, view_log, view_board, name_in, mask_in, Columns}

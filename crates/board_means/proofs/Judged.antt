@@ -39,8 +39,7 @@ use Rattle.entry.proofs.Entries.{Carried, the_write, new_view, new_held, heard_v
 use Rattle.send.specs.Model.{bytes_of, onward_of, send_parts}
 use Rattle.send.specs.View.{PartsOf}
 use Rattle.send.proofs.Meaning.{onward_count, onward_bytes}
-use Rattle.verdict.specs.declared.Verdict.{Verdict}
-use Rattle.verdict.specs.Model.{next_of, floor_of, refuse_of, new_of, held_of, judge_submit, judge_forward, judge_exec_notif, judge_executed}
+use Rattle.verdict.specs.Model.{Verdict, next_of, floor_of, refuse_of, new_of, held_of, judge_submit, judge_forward, judge_exec_notif, judge_executed}
 use Rattle.board.specs.declared.Board.{Board}
 use Rattle.board.specs.Model as M
 use Rattle.board.specs.Model.{entry_at, name_of, position_of, frames_of, board_after, taken_step, judged_step}

@@ -4,13 +4,11 @@
 use mathlib.Core.Path.{◌≡◌, refl, sym, ap, ◌∙◌, fun_ext}
 use mathlib.Core.Bool.{Bool, true, false, not, ◌&&◌, ◌||◌}
 use mathlib.Core.List.{List, [], ◌++◌}
-use mathlib.Core.Option.{none}
 use Prim.Native.Nat.{ℕ, zero, suc, ◌-◌, ◌≤◌, ◌<◌}
 use native.Mathlib.Omega.{arith}
 use lib.Dec.{T, leb, ltb, eqb, leb→le, nltb→le}
 use lib.ListN.{length, get_or, take, drop, replicate, length-replicate}
-use Rattle.rules.specs.Lists.{If◌then◌else◌, within, at}
-use Rattle.rules.specs.Frames as F
+use Rattle.rules.specs.Lists.{If◌then◌else◌, within}
 use Rattle.rules.specs.Frames.{submit, forward, exec_notif, executed, ok_ind, ok_reads, ok_write, obeys, decode}
 use Rattle.rules.specs.Outcomes as O
 use Rattle.rules.specs.Outcomes.{taken, refuse, unusable}
@@ -33,17 +31,14 @@ use Rattle.frames.proofs.Round.{items_of_lem, reads}
 use Rattle.frames.proofs.Meaning.{valid_obeys, reads_mean}
 use Rattle.entry.specs.Model.{no_entry}
 use Rattle.entry.proofs.Entries.{the_write}
-use Rattle.queue.specs.declared.Queue.{Queue}
 use Rattle.queue.specs.Model.{no_queue}
 use Rattle.queue.specs.View.{view_queue, view_queues, blank_queue}
 use Rattle.queue.proofs.Determined.{none_tidy}
 use Rattle.send.specs.Model.{laid}
 use Rattle.verdict.specs.Model.{next_of, refuse_of, judge_of}
 use Rattle.board.specs.declared.Board.{Board}
-use Rattle.board.specs.declared.Started.{Started}
-use Rattle.board.specs.declared.Stepped.{Stepped}
 use Rattle.board.specs.Model as M
-use Rattle.board.specs.Model.{empty_board, in_range, start_of, name_of, position_of, place_of, board_after, taken_step, judged_step, verdict_of, frame_step, outcome, step_of, out_of}
+use Rattle.board.specs.Model.{Started, Stepped, empty_board, in_range, start_of, name_of, position_of, place_of, board_after, taken_step, judged_step, verdict_of, frame_step, outcome, step_of, out_of}
 use Rattle.board_means.specs.View.{view_board, Columns, Held, StartMeans, StepMeans}
 use Rattle.board_means.proofs.Judged.{nothing_sent, Lifts, Judged, refusing, either, submit_means, forward_means, exec_notif_means, executed_means}
 
@@ -60,7 +55,7 @@ module _ (b : Board) (held : Held b) (started : T b.started) (lo : 1 ≤ b.m) (h
   place h = place_of h b.next b.names b.len
 
   abbrev Means : Head → ℕ → List Item → Type 0
-  Means h n xs = Lifts (frame_step b (record { head = h; count = n; items = xs }) (place h) room) (B.read_step (view_board b) (meant h n xs))
+  Means h n xs = Lifts (frame_step b (record { head = h; list = record { count = n; items = xs } }) (place h) room) (B.read_step (view_board b) (meant h n xs))
 
   not_for_me_lem : (h : Head) → Judged b held started lo hi room wide (place h) (refuse_of 2) (refuse 2 (view_board b))
   not_for_me_lem h = refusing b held started lo hi room wide (place h) 2 tt
@@ -68,43 +63,43 @@ module _ (b : Board) (held : Held b) (started : T b.started) (lo : 1 ≤ b.m) (h
   write_of_lem : (client number ack n : ℕ) (xs : List Item) → T (ok_write (the_write client number n xs) ack) → WriteRules (the_write client number n xs) ack
   write_of_lem client number ack n xs t = write_rules (the_write client number n xs) ack t
 
-  means : (h : Head) (n : ℕ) (xs : List Item) → T (valid (record { head = h; count = n; items = xs })) → CanonFrame (record { head = h; count = n; items = xs }) → Means h n xs
+  means : (h : Head) (n : ℕ) (xs : List Item) → T (valid (record { head = h; list = record { count = n; items = xs } })) → CanonFrame (record { head = h; list = record { count = n; items = xs } }) → Means h n xs
   unfolding frame_step verdict_of judge_of B.read_step B.frame_step place_of meaning
   means Bad n xs v cn = (refusing b held started lo hi room wide b.len 1 tt).means
   means (Submit client number ack) n xs v cn =
-      let g : T (ok_write (the_write client number n xs) ack) = unfold obeys in (valid_obeys (record { head = Submit client number ack; count = n; items = xs }) (submit (the_write client number n xs) ack) v cn refl) in
+      let g : T (ok_write (the_write client number n xs) ack) = unfold obeys in (valid_obeys (record { head = Submit client number ack; list = record { count = n; items = xs } }) (submit (the_write client number n xs) ack) v cn refl) in
       let w = write_of_lem client number ack n xs g in
       (either b held started lo hi room wide (place (Submit client number ack)) (eqb b.own 1) (eqb (view_board b).own 1) (unfold view_board in refl)
       (λ t.
       submit_means b held started lo hi room wide (place (Submit client number ack)) client number ack n xs (let k = w.client in omega arith) (let k = w.number in omega arith) cn.0
-      (items_of_lem (record { head = Submit client number ack; count = n; items = xs }) v) cn.1 w
+      (items_of_lem (record { head = Submit client number ack; list = record { count = n; items = xs } }) v) cn.1 w
       (λ late. if_yes (ltb number (next_of b.next client)) (position_of (name_of client number) (take b.len b.names)) b.len late)
       (λ late. if_no (ltb number (next_of b.next client)) (position_of (name_of client number) (take b.len b.names)) b.len late))
       (λ t. not_for_me_lem (Submit client number ack))).means
   means (Forward ind client number ack) n xs v cn =
       let g : T (ok_ind ind && ok_write (the_write client number n xs) ack)
-      = unfold obeys in (valid_obeys (record { head = Forward ind client number ack; count = n; items = xs }) (forward ind (the_write client number n xs) ack) v cn refl) in
+      = unfold obeys in (valid_obeys (record { head = Forward ind client number ack; list = record { count = n; items = xs } }) (forward ind (the_write client number n xs) ack) v cn refl) in
       let w = write_of_lem client number ack n xs (and_r (ok_ind ind) (ok_write (the_write client number n xs) ack) g) in
       (either b held started lo hi room wide ind (leb 2 b.own) (leb 2 (view_board b).own) (unfold view_board in refl)
       (λ t.
       forward_means b held started lo hi room wide ind client number ack n xs (leb→le ind 255 (and_l (ok_ind ind) (ok_write (the_write client number n xs) ack) g)) (let k = w.client in omega arith) cn.0
-      (items_of_lem (record { head = Forward ind client number ack; count = n; items = xs }) v) cn.1 w)
+      (items_of_lem (record { head = Forward ind client number ack; list = record { count = n; items = xs } }) v) cn.1 w)
       (λ t. not_for_me_lem (Forward ind client number ack))).means
   means (ShardAppend j ind sn) n xs v cn = (not_for_me_lem (ShardAppend j ind sn)).means
   means (ExecNotif j ind) n xs v cn =
-      let g : T (within 1 8 j && ok_ind ind && ok_reads (reads_of n xs)) = unfold obeys in (valid_obeys (record { head = ExecNotif j ind; count = n; items = xs }) (exec_notif j ind (reads_of n xs)) v cn refl) in
+      let g : T (within 1 8 j && ok_ind ind && ok_reads (reads_of n xs)) = unfold obeys in (valid_obeys (record { head = ExecNotif j ind; list = record { count = n; items = xs } }) (exec_notif j ind (reads_of n xs)) v cn refl) in
       let w = and_l (within 1 8 j) (ok_ind ind) (and_l (within 1 8 j && ok_ind ind) (ok_reads (reads_of n xs)) g) in
       (either b held started lo hi room wide ind (eqb b.own b.n && leb j b.m) (eqb (view_board b).own (view_board b).n && leb j (view_board b).m) (unfold view_board in refl)
       (λ t.
       exec_notif_means b held started lo hi room wide j ind n xs (leb→le 1 j (and_l (leb 1 j) (leb j 8) w)) (leb→le j 8 (and_r (leb 1 j) (leb j 8) w))
-      (record { slots = cn.0; items = items_of_lem (record { head = ExecNotif j ind; count = n; items = xs }) v; canon = cn.1; obeys = and_r (within 1 8 j && ok_ind ind) (ok_reads (reads_of n xs)) g }))
+      (record { slots = cn.0; items = items_of_lem (record { head = ExecNotif j ind; list = record { count = n; items = xs } }) v; canon = cn.1; obeys = and_r (within 1 8 j && ok_ind ind) (ok_reads (reads_of n xs)) g }))
       (λ t. not_for_me_lem (ExecNotif j ind))).means
   means (Executed ind) n xs v cn =
-      let g : T (ok_ind ind && ok_reads (reads_of n xs)) = unfold obeys in (valid_obeys (record { head = Executed ind; count = n; items = xs }) (executed ind (reads_of n xs)) v cn refl) in
+      let g : T (ok_ind ind && ok_reads (reads_of n xs)) = unfold obeys in (valid_obeys (record { head = Executed ind; list = record { count = n; items = xs } }) (executed ind (reads_of n xs)) v cn refl) in
       (either b held started lo hi room wide ind (ltb b.own b.n) (ltb (view_board b).own (view_board b).n) (unfold view_board in refl)
       (λ t.
       executed_means b held started lo hi room wide ind n xs
-      (record { slots = cn.0; items = items_of_lem (record { head = Executed ind; count = n; items = xs }) v; canon = cn.1; obeys = and_r (ok_ind ind) (ok_reads (reads_of n xs)) g }))
+      (record { slots = cn.0; items = items_of_lem (record { head = Executed ind; list = record { count = n; items = xs } }) v; canon = cn.1; obeys = and_r (ok_ind ind) (ok_reads (reads_of n xs)) g }))
       (λ t. not_for_me_lem (Executed ind))).means
   means (Response client number) n xs v cn = (not_for_me_lem (Response client number)).means
 
@@ -115,7 +110,7 @@ module _ (b : Board) (held : Held b) (started : T b.started) (lo : 1 ≤ b.m) (h
       (reads s bytes (λ (f : Frame). Lifts (frame_step b f (place f.head) room) (B.read_step (view_board b) (meaning f))) bad (λ f g. good f g.right g.canon))
     where
       good : (f : Frame) → T (valid f) → CanonFrame f → Lifts (frame_step b f (place f.head) room) (B.read_step (view_board b) (meaning f))
-      good f v cn = unfold meaning in (means f.head f.count f.items v cn)
+      good f v cn = unfold meaning in (means f.head f.list.count f.list.items v cn)
 
       bad : Lifts (frame_step b bad_frame (place bad_frame.head) room) (B.read_step (view_board b) (meaning bad_frame))
       bad = unfold bad_frame frame_step verdict_of judge_of B.read_step meaning place_of in (refusing b held started lo hi room wide b.len 1 tt).means

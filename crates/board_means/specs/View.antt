@@ -13,9 +13,7 @@ use Rattle.entry.specs.View.{view_entry, EntryHeld}
 use Rattle.queue.specs.View.{view_queues, QueuesHeld, AllTidy}
 use Rattle.verdict.specs.Model.{next_of, floor_of}
 use Rattle.board.specs.declared.Board.{Board}
-use Rattle.board.specs.declared.Started.{Started}
-use Rattle.board.specs.declared.Stepped.{Stepped}
-use Rattle.board.specs.Model.{name_of}
+use Rattle.board.specs.Model.{Started, Stepped, name_of}
 
 -- the entries of the log: the first len
 abbrev pub entries_of : Board → List Entry

@@ -1,6 +1,6 @@
 -- What the situations must give.
 -- Assumes nothing.
-use Rattle.std.specs.Prelude.{true, false, List, [], ◌∷◌, ℕ}
+use Rattle.std.specs.Prelude.{true, false, List, [], ◌∷◌, ℕ, ◌/◌, ◌%◌}
 use Rattle.board_situations.specs.declared.SeenD.{SeenD}
 use Rattle.board_situations.specs.declared.SeenF.{SeenF}
 use Rattle.board_situations.specs.declared.SeenI.{SeenI}
@@ -20,6 +20,11 @@ seen_f = record { first = 0; waiting = 0; exe0 = false; exe1 = false; exe2 = tru
 -- "Executed twice for one entry: 0, then 7"
 abbrev pub seen_i : SeenI
 seen_i = record { first = 0; second = 7 }
+
+-- a Submit of client 3: put key 5 value 1000
+abbrev pub submit_of : ℕ → ℕ → ℕ → List ℕ
+submit_of count number ack =
+    14 ∷ 0 ∷ 1 ∷ 0 ∷ 3 ∷ (number % 256) ∷ (number / 256 % 256) ∷ (ack % 256) ∷ (ack / 256 % 256) ∷ count ∷ 1 ∷ 5 ∷ 232 ∷ 3 ∷ 0 ∷ 0 ∷ []
 
 -- A with this count byte and this number
 abbrev pub submit_a : ℕ → ℕ → List ℕ

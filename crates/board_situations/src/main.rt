@@ -2,11 +2,61 @@
 // start and step; J, a log of 256 entries, is run. The program prints what it saw.
 #![tactic(auto)]
 
-ghost use Rattle.std.specs.Prelude.{◌≡◌, ◌++◌, drop};
-ghost use Rattle.board_situations.specs.Expected.{seen_d, forward_a, seen_f, seen_i};
+ghost use Rattle.std.specs.Prelude.{◌≡◌, ◌++◌, drop, Result};
+ghost use Rattle.refusal.specs.Number.{answer_of};
+ghost use Rattle.board.specs.Model.{start_of};
+ghost use Rattle.board_situations.specs.Expected.{submit_of, forward_at, notif_at, seen_d, forward_a, seen_f, seen_i};
 
 use board::Board;
+use refusal::Refusal;
+use send::Sent;
 use std::io;
+
+// The answer that a step shows: 0 where it was taken, else the refusal's number.
+fn answer(step: Result<Sent, Refusal>) -> u8
+    ensures { result ≡ answer_of step }
+{
+    step.err().map_or(0, u8::from)
+}
+
+// Board `own` of 2 over one shard group, fresh.
+fn fresh(own: u8) -> Board
+    ensures { result ≡ (start_of 2 1 own).board }
+{
+    let mut board = Board::unstarted();
+    let _started = board.start(2, 1, own);
+    board
+}
+
+// ---- Frames: each transaction is client 3's put of key 5, value 1000
+
+fn submit(count: u8, number: u16, ack: u16) -> [u8; 16]
+    ensures { result ≡ submit_of count number ack }
+{
+    let [low, high] = number.to_le_bytes();
+    let [ack_low, ack_high] = ack.to_le_bytes();
+    [
+        14, 0, 1, 0, 3, low, high, ack_low, ack_high, count, 1, 5, 232, 3, 0, 0,
+    ]
+}
+
+// The client's number is the log number.
+fn forward(log_number: u8) -> [u8; 18]
+    ensures { result ≡ forward_at log_number }
+{
+    [
+        16, 0, 2, 0, log_number, 0, 3, log_number, 0, 0, 0, 1, 1, 5, 232, 3, 0, 0,
+    ]
+}
+
+// From shard 1, without reads.
+fn notif(log_number: u8) -> [u8; 8]
+    ensures { result ≡ notif_at log_number }
+{
+    [6, 0, 4, 0, 1, log_number, 0, 0]
+}
+
+// ---- The situations
 
 // Answers to B, to C, and to A twice; the log's length then.
 #[derive(Clone, Copy)]
@@ -22,25 +72,19 @@ struct SeenD {
 fn play_d(out: &mut [u8; 68], again: &mut [u8; 68]) -> SeenD
     ensures { (result ≡ seen_d) × (out.new ≡ forward_a ++ drop 18 out.old) × (again.new ≡ forward_a ++ drop 18 again.old) }
 {
-    let a = b"\x0e\x00\x01\x00\x03\x00\x00\x00\x00\x01\x01\x05\xe8\x03\x00\x00";
-    let b = b"\x0e\x00\x01\x00\x03\x00\x00\x00\x00\x02\x01\x05\xe8\x03\x00\x00";
-    let c = b"\x0e\x00\x01\x00\x03\x01\x00\x00\x00\x01\x01\x05\xe8\x03\x00\x00";
-    let mut lost = [0u8; 68];
-    let started = board::start(2, 1, 1);
-    let fresh = started.board;
-    let s = board::step(fresh, b, &mut lost);
-    let second = s.board;
-    let t = board::step(second, c, &mut lost);
-    let third = t.board;
-    let u = board::step(third, a, out);
-    let fourth = u.board;
-    let v = board::step(fourth, a, again);
+    let mut lost = [0; 68];
+    let mut board = fresh(1);
+    let b = answer(board.step(&submit(2, 0, 0), &mut lost));
+    let c = answer(board.step(&submit(1, 1, 0), &mut lost));
+    let a = submit(1, 0, 0);
+    let first = answer(board.step(&a, out));
+    let second = answer(board.step(&a, again));
     SeenD {
-        b: s.answer,
-        c: t.answer,
-        first: u.answer,
-        second: v.answer,
-        entries: v.board.len,
+        b,
+        c,
+        first,
+        second,
+        entries: board.len,
     }
 }
 
@@ -61,39 +105,25 @@ struct SeenF {
 fn play_f() -> SeenF
     ensures { result ≡ seen_f }
 {
-    let mut out = [0u8; 68];
-    let started = board::start(2, 1, 2);
-    let fresh = started.board;
-    let a = board::step(
-        fresh,
-        b"\x10\x00\x02\x00\x00\x00\x03\x00\x00\x00\x00\x01\x01\x05\xe8\x03\x00\x00",
-        &mut out,
-    );
-    let one = a.board;
-    let b = board::step(
-        one,
-        b"\x10\x00\x02\x00\x01\x00\x03\x01\x00\x00\x00\x01\x01\x05\xe8\x03\x00\x00",
-        &mut out,
-    );
-    let two = b.board;
-    let c = board::step(
-        two,
-        b"\x10\x00\x02\x00\x02\x00\x03\x02\x00\x00\x00\x01\x01\x05\xe8\x03\x00\x00",
-        &mut out,
-    );
-    let three = c.board;
-    let d = board::step(three, b"\x06\x00\x04\x00\x01\x02\x00\x00", &mut out);
-    let four = d.board;
-    let e = board::step(four, b"\x06\x00\x04\x00\x01\x00\x00\x00", &mut out);
-    let five = e.board;
+    let mut out = [0; 68];
+    let mut board = fresh(2);
+    let _a = board.step(&forward(0), &mut out);
+    let _b = board.step(&forward(1), &mut out);
+    let _c = board.step(&forward(2), &mut out);
+    let first = answer(board.step(&notif(2), &mut out));
+    let waiting = board.queues[0].len;
+    let exe0 = board.log[0].exe;
+    let exe1 = board.log[1].exe;
+    let exe2 = board.log[2].exe;
+    let second = answer(board.step(&notif(0), &mut out));
     SeenF {
-        first: d.answer,
-        waiting: four.queues[0].len,
-        exe0: four.log[0].exe,
-        exe1: four.log[1].exe,
-        exe2: four.log[2].exe,
-        second: e.answer,
-        taken: five.queues[0].taken,
+        first,
+        waiting,
+        exe0,
+        exe1,
+        exe2,
+        second,
+        taken: board.queues[0].taken,
     }
 }
 
@@ -107,60 +137,36 @@ struct SeenI {
 fn play_i() -> SeenI
     ensures { result ≡ seen_i }
 {
-    let mut out = [0u8; 68];
-    let started = board::start(2, 1, 1);
-    let fresh = started.board;
-    let a = board::step(
-        fresh,
-        b"\x0e\x00\x01\x00\x03\x00\x00\x00\x00\x01\x01\x05\xe8\x03\x00\x00",
-        &mut out,
-    );
-    let one = a.board;
-    let b = board::step(one, b"\x05\x00\x05\x00\x00\x00\x00", &mut out);
-    let two = b.board;
-    let c = board::step(two, b"\x05\x00\x05\x00\x00\x00\x00", &mut out);
-    SeenI {
-        first: b.answer,
-        second: c.answer,
-    }
-}
-
-// Client 3's Submit of a number, its own ack: put key 5 value 1000.
-fn submit(number: u16) -> [u8; 16] {
-    let low = (number % 256) as u8;
-    let high = (number / 256) as u8;
-    [14, 0, 1, 0, 3, low, high, low, high, 1, 1, 5, 232, 3, 0, 0]
+    let mut out = [0; 68];
+    let mut board = fresh(1);
+    let _a = board.step(&submit(1, 0, 0), &mut out);
+    let executed = b"\x05\x00\x05\x00\x00\x00\x00";
+    let first = answer(board.step(executed, &mut out));
+    let second = answer(board.step(executed, &mut out));
+    SeenI { first, second }
 }
 
 // A head's log filled by 256 Submits.
 fn full() -> Board {
-    let started = board::start(2, 1, 1);
-    let mut b = started.board;
-    let mut number: u16 = 0;
-    while number < 256 {
-        let mut out = [0u8; 68];
-        let f = submit(number);
-        let r = board::step(b, &f, &mut out);
-        b = r.board;
-        number += 1;
+    let mut board = fresh(1);
+    let mut out = [0; 68];
+    for number in 0..256 {
+        let _taken = board.step(&submit(1, number, number), &mut out);
     }
-    b
+    board
 }
 
 // "log of 256, new number: 5; a held PRE number: Forward."
 fn play_j(rt: &impl Print) -> io::Result<()> {
-    let b = full();
+    let mut board = full();
     print!(rt; "J")?;
-    say(rt, b.len as u64)?;
-    let mut out = [0u8; 68];
-    let new = submit(256);
-    let s = board::step(b, &new, &mut out);
-    say(rt, s.answer as u64)?;
-    say(rt, s.frames as u64)?;
-    let held = submit(255);
-    let t = board::step(b, &held, &mut out);
-    say(rt, t.answer as u64)?;
-    say(rt, t.frames as u64)?;
+    say(rt, board.len as u64)?;
+    let mut out = [0; 68];
+    for number in [256, 255] {
+        let step = board.step(&submit(1, number, number), &mut out);
+        say(rt, answer(step) as u64)?;
+        say(rt, step.map_or(0, |sent| sent.frames) as u64)?;
+    }
     show(rt, &out)
 }
 
@@ -217,10 +223,8 @@ fn hex(rt: &impl Print, x: u8) -> io::Result<()> {
 // The first 18 bytes, a Forward of one operation.
 fn show(rt: &impl Print, out: &[u8; 68]) -> io::Result<()> {
     print!(rt; ":")?;
-    let mut i: usize = 0;
-    while i < 18 {
-        hex(rt, out[i])?;
-        i += 1;
+    for byte in &out[..18] {
+        hex(rt, *byte)?;
     }
     println!(rt)
 }

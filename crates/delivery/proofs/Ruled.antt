@@ -12,17 +12,18 @@ use borrow.Author.Tests.{lt-leb, le-ltb}
 use Rattle.rules.specs.Lists.{If◌then◌else◌, within}
 use Rattle.rules.proofs.Lists.{by, and_r}
 use Rattle.board.specs.declared.Board.{Board}
-use Rattle.board.specs.declared.Started.{Started as BoardStarted}
+use Rattle.board.specs.Model.{Started as BoardStarted}
 use Rattle.board.specs.Model.{empty_board}
 use Rattle.board.proofs.Ruled.{start_above_n}
 use Rattle.shard.specs.declared.Shard.{Shard}
-use Rattle.shard.specs.declared.Started.{Started as ShardStarted}
+use Rattle.shard.specs.Model.{Started as ShardStarted}
 use Rattle.shard.specs.Model.{empty_shard, start_of}
 use Rattle.delivery.specs.declared.Register.{Register}
 use Rattle.records.specs.declared.Next.TheVariants.{Record}
 use Rattle.records.specs.Records.{next_of}
 use Rattle.delivery.specs.Register.{board_at_start, shard_at_start, boards_of, shards_of, register_of, turn_of}
-use Rattle.delivery.specs.Delivery.{frame_at, after, onward, runs, begun, delivered}
+use Rattle.delivery.specs.declared.Delivered.{Delivered as Counts}
+use Rattle.delivery.specs.Delivery.{frame_at, after, onward, runs, begun, delivered, Delivered, shown}
 use Rattle.delivery.specs.Logs.{log_lines}
 
 -- ---- start
@@ -70,6 +71,13 @@ pub shard_above_m : (n m i : ℕ) (z : Shard) → i < 8 → m ≤ i → (get_or 
 shard_above_m n m i z h g = ap (λ (s : Shard). s.started) (shards_at n m i z h) ∙ unstarted_shard m (suc i) (omega arith)
 
 -- ---- deliver
+
+-- what a delivery shows tells the register that it left, and its numbers
+pub shown_tells : (r s : Register) (c d : Counts) → shown r c ≡ shown s d → (r ≡ s) × (c ≡ d)
+shown_tells r s c d e = (
+  ap (λ (x : Delivered). x.register) e,
+  (λ i. record { index = (e i).index; taken = (e i).taken; written = (e i).written }),
+)
 
 -- a line, or a change, without a record
 pub nothing_delivered : (r : Register) (first room : ℕ) → delivered r first [] room ≡ begun r first

@@ -4,7 +4,7 @@ use Rattle.std.specs.Prelude.{Bool, ◌||◌, List, [], ◌++◌, ℕ, zero, suc
 use Rattle.rules.specs.Lists.{If◌then◌else◌, ◌<?◌, ◌≤?◌}
 use Rattle.lines.specs.Text.{d_line}
 use Rattle.delivery.specs.declared.Register.{Register}
-use Rattle.delivery.specs.declared.Delivered.{Delivered}
+use Rattle.delivery.specs.declared.Delivered.{Delivered as Counts}
 use Rattle.records.specs.declared.Next.{Next}
 use Rattle.records.specs.declared.Next.TheVariants.{Record, Need, Cut}
 use Rattle.records.specs.Records.{next_of}
@@ -52,5 +52,16 @@ delivered r first input room = runs (length input) input room (begun r first)
 abbrev pub standing : (text area : List ℕ) → List ℕ
 standing text area = text ++ drop (length text) area
 
+-- what a run comes to: the register after it, and the numbers
+pub record Delivered : Type 0 where
+  pub register : Register
+  pub index : ℕ
+  pub taken : ℕ
+  pub written : ℕ
+
 abbrev pub delivered_of : Run → Delivered
 delivered_of run = record { register = run.register; index = run.index; taken = run.taken; written = length run.text }
+
+-- what a delivery's result shows, beside the register that it left
+abbrev pub shown : Register → Counts → Delivered
+shown r d = record { register = r; index = d.index; taken = d.taken; written = d.written }

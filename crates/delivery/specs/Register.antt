@@ -1,16 +1,16 @@
 -- The register under test: its boards and shard groups as they start, and what a record does to them.
 -- Assumes nothing.
-use Rattle.std.specs.Prelude.{List, [], ◌∷◌, ℕ, get_or, set}
+use Rattle.std.specs.Prelude.{List, [], ◌∷◌, ℕ, get_or, set, Result, Ok, Err}
 use Rattle.rules.specs.Lists.{If◌then◌else◌, ◌=?◌}
 use Rattle.rules.specs.Answers.{done, not_for_me}
 use Rattle.rules.specs.Outcomes.{least_out}
 use Rattle.board.specs.declared.Board.{Board}
-use Rattle.board.specs.declared.Stepped.{Stepped as BoardStepped}
-use Rattle.board.specs.Model.{start_of as board_start, step_of as board_step}
+use Rattle.board.specs.Model.{Stepped as BoardStepped, start_of as board_start, step_of as board_step}
 use Rattle.shard.specs.declared.Shard.{Shard}
-use Rattle.shard.specs.declared.Stepped.{Stepped as ShardStepped}
-use Rattle.shard.specs.Model.{start_of as shard_start, step_of as shard_step}
+use Rattle.shard.specs.Model.{Stepped as ShardStepped, start_of as shard_start, step_of as shard_step}
 use Rattle.delivery.specs.declared.Register.{Register}
+use Rattle.refusal.specs.declared.Refusal.{Refusal}
+use Rattle.refusal.specs.Number.{answer_of}
 use Rattle.records.specs.declared.Receiver.{Receiver}
 use Rattle.records.specs.declared.Receiver.TheVariants.{Board as to_board, Shard as to_shard, Nobody as to_nobody}
 use Rattle.records.specs.Records.{receiver_of}
@@ -62,3 +62,12 @@ turn_at r frame to_nobody = record { register = r; answer = not_for_me; frames =
 
 abbrev pub turn_of : Register → (address : ℕ) (frame : List ℕ) → Turn
 turn_of r address frame = turn_at r frame (receiver_of r.n r.m address)
+
+-- how many frames a turn's result says were sent; a refused step sends none
+abbrev pub sent_by : Result ℕ Refusal → ℕ
+sent_by (Ok frames) = frames
+sent_by (Err refusal) = 0
+
+-- what a turn's result shows, beside the register that it left
+abbrev pub turned : Register → Result ℕ Refusal → Turn
+turned r sent = record { register = r; answer = answer_of sent; frames = sent_by sent }

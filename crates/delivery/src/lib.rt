@@ -4,15 +4,18 @@
 // Each function's result is determined for every input by a function of specs/.
 #![tactic(auto)]
 
-ghost use Rattle.std.specs.Prelude.{◌≡◌, ◌++◌, ◌+◌, ◌≤◌, length, take, drop};
-ghost use Rattle.delivery.specs.Register.{board_at_start, shard_at_start, boards_of, shards_of, register_of};
-ghost use Rattle.delivery.specs.Delivery.{delivered, delivered_of, standing};
+ghost use Rattle.std.specs.Prelude.{◌≡◌, ◌≤◌, length, take};
+ghost use Rattle.delivery.specs.Register.{register_of, turn_of, turned, sent_by};
+ghost use Rattle.delivery.specs.Delivery.{delivered, delivered_of, shown, standing};
 ghost use Rattle.delivery.specs.Logs.{log_lines};
-ghost use Rattle.lines.specs.Text.{d_line, l_line};
-ghost use Rattle.lines.specs.Area.{laid};
+ghost use Rattle.lines.specs.Text.{d_line};
+ghost use Rattle.lines.specs.Area.{Laid};
+ghost use Rattle.refusal.specs.Number.{answer_of};
 
 use board::Board;
+use entry::Entry;
 use records::{Next, Receiver};
+use refusal::Refusal;
 use shard::Shard;
 
 // ---- The register under test
@@ -26,187 +29,116 @@ pub struct Register {
     pub shards: [Shard; 8],
 }
 
-fn board_at_start(n: u8, m: u8, own: u8) -> Board
-    ensures { result ≡ board_at_start n m own }
-{
-    let s = board::start(n, m, own);
-    s.board
-}
-
-fn shard_at_start(m: u8, own: u8) -> Shard
-    ensures { result ≡ shard_at_start m own }
-{
-    let s = shard::start(m, own);
-    s.shard
-}
-
-fn boards_at_start(n: u8, m: u8) -> [Board; 8]
-    ensures { result ≡ boards_of n m }
-{
-    let a = board_at_start(n, m, 1);
-    let b = board_at_start(n, m, 2);
-    let c = board_at_start(n, m, 3);
-    let d = board_at_start(n, m, 4);
-    let e = board_at_start(n, m, 5);
-    let f = board_at_start(n, m, 6);
-    let g = board_at_start(n, m, 7);
-    let h = board_at_start(n, m, 8);
-    [a, b, c, d, e, f, g, h]
-}
-
-fn shards_at_start(m: u8) -> [Shard; 8]
-    ensures { result ≡ shards_of m }
-{
-    let a = shard_at_start(m, 1);
-    let b = shard_at_start(m, 2);
-    let c = shard_at_start(m, 3);
-    let d = shard_at_start(m, 4);
-    let e = shard_at_start(m, 5);
-    let f = shard_at_start(m, 6);
-    let g = shard_at_start(m, 7);
-    let h = shard_at_start(m, 8);
-    [a, b, c, d, e, f, g, h]
-}
-
-pub fn start(n: u8, m: u8) -> Register
-    ensures { result ≡ register_of n m }
-{
-    let boards = boards_at_start(n, m);
-    let shards = shards_at_start(m);
-    Register {
-        n: n,
-        m: m,
-        boards: boards,
-        shards: shards,
+impl Register {
+    // Boards and shard groups as they start. A refused start, as above n and m, leaves one that is not started.
+    pub fn start(n: u8, m: u8) -> Register
+        ensures { result ≡ register_of n m }
+    {
+        let mut boards = [Board::unstarted(); 8];
+        for (i, board) in boards.iter_mut().enumerate() {
+            let _ = board.start(n, m, i as u8 + 1);
+        }
+        let mut shards = [Shard::unstarted(); 8];
+        for (i, shard) in shards.iter_mut().enumerate() {
+            let _ = shard.start(m, i as u8 + 1);
+        }
+        Register {
+            n,
+            m,
+            boards,
+            shards,
+        }
     }
 }
 
 // ---- Delivery
 
-// The register and the next record's index after some records; how many bytes of the input they were, and how many of the text their lines are.
+// A record's frame goes to whom its address names: how many frames that sends, or why it is refused. A refused step leaves its state as it was.
+fn turn(r: &mut Register, address: u8, frame: &[u8]) -> Result<u8, Refusal>
+    ensures { turned r.new result ≡ turn_of r.old address frame.now }
+{
+    let mut out = [0; 68];
+    match records::named(r.n, r.m, address) {
+        Receiver::Board(i) => {
+            let sent = r.boards[i].step(frame, &mut out)?;
+            Ok(sent.frames)
+        }
+        // a step of a shard group that is taken sends one frame
+        Receiver::Shard(i) => {
+            r.shards[i].step(frame, &mut out)?;
+            Ok(1)
+        }
+        Receiver::Nobody => Err(Refusal::NotForMe),
+    }
+}
+
+// The d line of a turn. Answer 0 means that the step was taken.
+fn line(index: u64, turn: Result<u8, Refusal>, text: &mut [u8]) -> usize
+    ensures { Laid (d_line index (answer_of turn) (sent_by turn)) text.old text.new result }
+{
+    match turn {
+        Ok(frames) => lines::d_line(index, 0, frames, text),
+        Err(refusal) => lines::d_line(index, u8::from(refusal), 0, text),
+    }
+}
+
+// The next record's index after some records; how many bytes of the input they were, and how many of the text their lines are.
 #[derive(Clone, Copy)]
 pub struct Delivered {
-    pub register: Register,
     pub index: u64,
     pub taken: usize,
     pub written: usize,
 }
 
 // The records at the front of the input are delivered in their order, each to whom its address names, and the line of each is laid behind the last,
-// until no whole record is left or the text has less than 128 bytes left. A refused step leaves its state as it was, so only a taken one is stored.
-pub fn deliver(r: Register, first: u64, input: &[u8], text: &mut [u8]) -> Delivered
-    ensures { (result ≡ delivered_of (delivered r first input.now (length text.old))) × (text.new ≡ standing (delivered r first input.now (length text.old)).text text.old) × (result.taken ≤ length input.now) × (result.written ≤ length text.old) }
+// until no whole record is left or the text has less than 128 bytes left.
+pub fn deliver(r: &mut Register, first: u64, input: &[u8], text: &mut [u8]) -> Delivered
+    ensures { (shown r.new result ≡ delivered_of (delivered r.old first input.now (length text.old))) × (text.new ≡ standing (delivered r.old first input.now (length text.old)).text text.old) × (result.taken ≤ length input.now) × (result.written ≤ length text.old) }
 {
-    let n = r.n;
-    let m = r.m;
-    let mut boards = r.boards;
-    let mut shards = r.shards;
     let mut index = first;
-    let mut taken: usize = 0;
-    let mut written: usize = 0;
-    while index < u64::MAX {
-        if text.len() - written < 128 {
-            break;
-        }
-        let next = records::record_at(&input[taken..]);
-        let Next::Record { address, end } = next else {
+    let mut taken = 0;
+    let mut written = 0;
+    // The index is handed back, so no `for` counts it.
+    while index < u64::MAX && text.len() - written >= 128 {
+        let Next::Record { address, end } = records::record_at(&input[taken..]) else {
             break;
         };
-        let from = taken + 1;
+        let frame = &input[taken + 1..taken + end];
+        let turn = turn(r, address, frame);
+        written += line(index, turn, &mut text[written..]);
         taken += end;
-        let whom = records::named(n, m, address);
-        match whom {
-            Receiver::Board(i) => {
-                let mut out = [0u8; 68];
-                let b = boards[i];
-                let s = board::step(b, &input[from..taken], &mut out);
-                written = line(index, s.answer, s.frames, text, written);
-                index += 1;
-                if s.answer != 0 {
-                    continue;
-                }
-                let next = s.board;
-                boards[i] = next;
-                continue;
-            }
-            Receiver::Shard(i) => {
-                let mut out = [0u8; 68];
-                let g = shards[i];
-                let s = shard::step(g, &input[from..taken], &mut out);
-                written = line(index, s.answer, s.frames, text, written);
-                index += 1;
-                if s.answer != 0 {
-                    continue;
-                }
-                let next = s.shard;
-                shards[i] = next;
-                continue;
-            }
-            Receiver::Nobody => {
-                written = line(index, 2, 0, text, written);
-                index += 1;
-                continue;
-            }
-        }
+        index += 1;
     }
-    let register = Register {
-        n: n,
-        m: m,
-        boards: boards,
-        shards: shards,
-    };
     Delivered {
-        register: register,
-        index: index,
-        taken: taken,
-        written: written,
+        index,
+        taken,
+        written,
     }
-}
-
-// A d line behind what is written.
-fn line(index: u64, answer: u8, frames: u8, text: &mut [u8], written: usize) -> usize
-    requires { written + 128 ≤ length text.old }
-    ensures { (result ≡ written + length (d_line index answer frames)) × (text.new ≡ take written text.old ++ laid (d_line index answer frames) (drop written text.old)) }
-{
-    written + lines::d_line(index, answer, frames, &mut text[written..])
 }
 
 // ---- The logs
 
+// The entries that a log holds: the first len of its places, and all where len is more than they are.
+fn held(log: &[Entry; 256], len: u16) -> &[Entry]
+    ensures value { result.now ≡ take len log.now }
+    ensures few { length result.now ≤ 256 }
+{
+    let end = (len as usize).min(log.len());
+    &log[..end]
+}
+
 // The L lines of a board's log, rising, from the first byte of the text on. A text of less than 32,768 bytes takes none.
-pub fn log_lines(board: u8, b: Board, text: &mut [u8]) -> usize
-    ensures { (result ≡ length (log_lines board b (length text.old))) × (text.new ≡ standing (log_lines board b (length text.old)) text.old) × (result ≤ length text.old) }
+pub fn log_lines(board: u8, b: &Board, text: &mut [u8]) -> usize
+    ensures { (result ≡ length (log_lines board b.now (length text.old))) × (text.new ≡ standing (log_lines board b.now (length text.old)) text.old) × (result ≤ length text.old) }
 {
     if text.len() < 32768 {
         return 0;
     }
-    let len = b.len;
-    let mut log_number: u16 = 0;
-    let mut written: usize = 0;
-    while log_number < len {
-        let at = log_number as usize;
-        if 256 <= at {
-            break;
-        }
-        let e = b.log[at];
-        written = log_line(board, log_number, e.client, e.number, e.exe, text, written);
-        log_number += 1;
+    let entries = held(&b.log, b.len);
+    let mut written = 0;
+    for (i, e) in entries.iter().enumerate() {
+        let rest = &mut text[written..];
+        written += lines::l_line(board, i as u16, e.client, e.number, e.exe, rest);
     }
     written
-}
-
-// An L line behind what is written.
-fn log_line(
-    board: u8,
-    log_number: u16,
-    client: u8,
-    number: u16,
-    exe: bool,
-    text: &mut [u8],
-    written: usize,
-) -> usize
-    requires { written + 128 ≤ length text.old }
-    ensures { (result ≡ written + length (l_line board log_number client number exe)) × (text.new ≡ take written text.old ++ laid (l_line board log_number client number exe) (drop written text.old)) }
-{
-    written + lines::l_line(board, log_number, client, number, exe, &mut text[written..])
 }

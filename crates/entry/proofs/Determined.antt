@@ -17,7 +17,7 @@ use Rattle.rules.proofs.Lists.{and_l, and_r}
 use Rattle.frames.specs.declared.Item.{Item}
 use Rattle.frames.specs.Frames.{no_item}
 use Rattle.frames.specs.View.{as_read, seen_item, operations_of}
-use Rattle.frames.proofs.Items.{read_made, same_operations_lem}
+use Rattle.frames.proofs.Slots.{read_made, same_operations_lem}
 use Rattle.entry.specs.declared.Entry.{Entry}
 use Rattle.entry.specs.View.{set_of, saw, heard_key, write_of, view_entry, is_get, ReadOf, answered_get, EntryHeld}
 use Rattle.entry.proofs.Masks.{same_mask}

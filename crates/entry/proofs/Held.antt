@@ -18,7 +18,7 @@ use Rattle.frames.specs.declared.Item.{Item}
 use Rattle.frames.specs.Frames.{no_item, ok_item, ok_from, ok_items}
 use Rattle.frames.specs.View.{as_operation, as_read, operations_of, reads_of}
 use Rattle.frames.proofs.Round.{enough}
-use Rattle.frames.proofs.Items.{key_of_lem}
+use Rattle.frames.proofs.Slots.{key_of_lem}
 use Rattle.entry.specs.declared.Entry.{Entry}
 use Rattle.entry.specs.Model as M
 use Rattle.entry.specs.Model.{in_mask, beside, is_on, chosen, part_on, answered_of, reads_held}

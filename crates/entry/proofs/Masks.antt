@@ -1,13 +1,15 @@
 -- The bits of a byte: what adding and taking away a shard's bit does to every other bit, by halving.
 -- Assumes nothing.
 use mathlib.Core.Path.{◌≡◌, refl, sym, ap, ◌∙◌}
-use mathlib.Core.Bool.{Bool, true, false, not, ◌&&◌, ◌||◌}
+use mathlib.Core.Bool.{cond, Bool, true, false, not, ◌&&◌, ◌||◌}
 use Prim.Native.Nat.{ℕ, zero, suc, ◌+◌, ◌-◌, ◌/◌, ◌%◌, ◌^◌, ◌≤◌, ◌<◌}
 use native.Mathlib.Nat.{pow-suc, div-one}
 use native.Mathlib.Omega.{arith}
 use lib.Dec.{leb, eqb}
 use lib.Pow.{shr-shr}
-use borrow.Author.Tests.{leb-true, eqb-true, eqb-false, le-leb}
+use borrow.Author.Rules.{rules}
+use Rattle.std.specs.Ordering.{is_le, is_lt, nat_cmp}
+use borrow.Author.Tests.{tests, leb-true, eqb-true, eqb-false, le-leb}
 use Rattle.rules.specs.Lists.{If◌then◌else◌, within}
 use Rattle.entry.specs.Model.{bit_of, in_mask, insert_of, strike_of}
 
@@ -111,6 +113,16 @@ module _ (mask shard : ℕ) where
 
   pub bit_counts : in_mask mask shard ≡ true → bit_of shard ≤ mask
   bit_counts h = digit_counts (shard - 1) mask (in_one h)
+
+-- ---- The test of a range
+
+le_is : (a b : ℕ) → is_le (nat_cmp a b) ≡ leb a b
+le_is a b = search (rules, tests)
+
+-- what `contains` of a range 1..=8 gives
+pub range_is : (r : Bool) (low high : ℕ) (over : Bool) (x : ℕ) → low ≡ 1 → high ≡ 8 → over ≡ false
+    → r ≡ (is_le (nat_cmp low x) && cond over (is_lt (nat_cmp x high)) (is_le (nat_cmp x high))) → r ≡ within 1 8 x
+range_is r low high over x l h o e = e ∙ rw (l, h, o) (λ i. le_is 1 x i && le_is x 8 i)
 
 -- ---- What inserting and striking a shard does to the test of every shard
 

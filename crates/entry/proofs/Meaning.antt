@@ -18,7 +18,7 @@ use Rattle.frames.specs.declared.Item.{Item}
 use Rattle.frames.specs.declared.Shape.TheVariants.{Operation as AnOperation}
 use Rattle.frames.specs.Frames.{ok_item, ok_from, ok_items}
 use Rattle.frames.specs.View.{as_operation, as_placed, as_read, operations_of, placed_of, reads_of, CanonFrom, Canon}
-use Rattle.frames.proofs.Items.{ItemRules, item_rules, key_of_lem}
+use Rattle.frames.proofs.Slots.{ItemRules, item_rules, key_of_lem}
 use Rattle.frames.proofs.Round.{enough}
 use Rattle.entry.specs.declared.Entry.{Entry}
 use Rattle.entry.specs.Model.{beside, is_on, chosen, part_on, agree, same_operation, same_operations_of, same_place, fits_of, same_write_of}

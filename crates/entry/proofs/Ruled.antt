@@ -4,20 +4,21 @@
 use mathlib.Core.Path.{◌≡◌, refl, ap, sym, ◌∙◌}
 use mathlib.Core.Logic.{◌≢◌}
 use mathlib.Core.Bool.{Bool, true, false, ◌&&◌}
-use mathlib.Core.List.{List, [], ◌∷◌}
-use Prim.Native.Nat.{ℕ, suc, ◌≤◌}
+use mathlib.Core.List.{List, []}
+use Prim.Native.Nat.{ℕ, ◌≤◌}
 use native.Mathlib.Omega.{arith}
 use lib.Dec.{eqb}
 use lib.ListN.{length, take, length-take}
 use mir.Facts.{no_eqb}
 use Rattle.rules.specs.Lists.{If◌then◌else◌, has}
-use Rattle.rules.proofs.Lists.{by, T_false}
+use Rattle.rules.proofs.Lists.{T_false}
 use Rattle.frames.specs.declared.Item.{Item}
 use Rattle.entry.specs.declared.Entry.{Entry}
-use Rattle.entry.specs.Model.{in_mask, strike_of, touched_mask, touched_of, no_part, beside, chosen, is_get, same_operations_of, fits_of, answered_of, reads_held, no_entry, same_write_of, heard_from_of, finished_of}
+use Rattle.entry.specs.Model.{in_mask, strike_of, touched_mask, touched_of, no_part, chosen, is_get, same_operations_of, fits_of, answered_of, reads_held, no_entry, same_write_of, heard_from_of, finished_of}
 use Rattle.entry.specs.View.{set_of}
 use Rattle.entry.proofs.Masks.{in_strike}
 use Rattle.entry.proofs.Sets.{in_set}
+use Rattle.entry.proofs.Slots.{picked_few}
 
 differ : {x y : ℕ} → x ≢ y → eqb x y ≡ false
 differ {x} {y} d = T_false (eqb x y) (no_eqb d)
@@ -74,17 +75,10 @@ no_entry_reads m = refl
 
 -- ---- reads_of
 
-few : (ok : Item → Bool) (xs ys : List Item) → length (beside ok xs ys) ≤ length xs
-few ok [] ys = omega arith
-few ok (x ∷ xs) [] = omega arith
-few ok (x ∷ xs) (y ∷ ys) =
-    let h = few ok xs ys in
-    by (λ (l : List Item). length l ≤ suc (length xs)) (ok x) (λ t. omega arith) (λ t. omega arith)
-
 -- more reads than there are operations
 pub reads_few : (m : ℕ) (e : Entry) → (reads_held m e).count ≤ e.count
 unfolding reads_held
-reads_few m e = omega (arith, few (answered_of m e.remaining) (take e.count e.items) e.reads, length-take e.count e.items)
+reads_few m e = omega (arith, picked_few (answered_of m e.remaining) (take e.count e.items) e.reads, length-take e.count e.items)
 
 -- ---- heard_from
 

@@ -1,15 +1,17 @@
 -- A byte is a set of shards: testing, inserting, striking and being empty mean the same of the byte and of the rules' rising list.
 -- Assumes nothing.
 use mathlib.Core.Path.{◌≡◌, refl, sym, ap, ◌∙◌}
-use mathlib.Core.Bool.{Bool, true, false, not, ◌&&◌}
+use mathlib.Core.Bool.{Bool, true, false, not, ◌&&◌, ◌||◌}
+use mathlib.Core.Logic.{◌⊎◌, inl, inr}
 use mathlib.Core.List.{List, [], ◌∷◌, map}
 use Prim.Native.Nat.{ℕ, zero, suc, ◌+◌, ◌≤◌, ◌<◌}
 use native.Mathlib.Nat.{mod-lt}
 use native.Mathlib.Omega.{arith}
-use lib.Dec.{T, eqb, eqb→eq, eqb_refl}
+use borrow.Author.Tests.{leb-true}
+use lib.Dec.{T, leb, eqb, eqb→eq, eqb_refl}
 use lib.ListN.{take}
 use mir.Facts.{yes_eqb, no_eqb, eqb_no}
-use Rattle.rules.specs.Lists.{If◌then◌else◌, is_empty, has, insert, strike}
+use Rattle.rules.specs.Lists.{If◌then◌else◌, within, is_empty, has, insert, strike}
 use Rattle.rules.specs.Transactions.{shard_of, touched}
 use Rattle.rules.specs.Kept.{Ascending}
 use Rattle.rules.proofs.Lists.{by, if_yes, if_no, or_cases, or_left, or_right, T_true, T_false}
@@ -17,10 +19,10 @@ use Rattle.rules.proofs.Sets.{insert_same, insert_old, insert_cases, strike_has}
 use Rattle.rules.proofs.Room.{insert_ascends, strike_ascends}
 use Rattle.frames.specs.declared.Item.{Item}
 use Rattle.frames.specs.View.{as_operation, operations_of}
-use Rattle.frames.proofs.Items.{key_of_lem}
-use Rattle.entry.specs.Model.{in_mask, insert_of, strike_of, is_empty_of, shard_number, touched_mask, touched_of}
+use Rattle.frames.proofs.Slots.{key_of_lem}
+use Rattle.entry.specs.Model.{bit_of, in_mask, insert_of, strike_of, is_empty_of, shard_number, touched_mask, touched_of}
 use Rattle.entry.specs.View.{set_from, set_of}
-use Rattle.entry.proofs.Masks.{in_range_lem, in_insert, in_strike, empty_mask}
+use Rattle.entry.proofs.Masks.{in_range_lem, bit_room, in_insert, in_strike, empty_mask, same_mask}
 
 -- two tests that imply each other are the same
 pub iff : (a b : Bool) → (T a → T b) → (T b → T a) → a ≡ b
@@ -150,3 +152,60 @@ touched_all m lo hi (x ∷ xs) =
 pub touched_set : (m count : ℕ) (items : List Item) → 1 ≤ m → m ≤ 8 → set_of (touched_of m count items) ≡ touched m (operations_of count items)
 unfolding touched_of
 touched_set m count items lo hi = touched_all m lo hi (take count items)
+
+-- ---- The order in which shards are inserted makes no difference
+
+insert_out : (mask j : ℕ) → within 1 8 j ≡ false → insert_of mask j ≡ mask
+unfolding insert_of If◌then◌else◌
+insert_out mask j e = rw e
+
+insert_small : (mask j : ℕ) → mask < 256 → insert_of mask j < 256
+unfolding insert_of
+insert_small mask j h = go (leb 1 j) refl (leb j 8) refl (in_mask mask j) refl
+  where
+    go : (a : Bool) → a ≡ leb 1 j → (b : Bool) → b ≡ leb j 8 → (t : Bool) → in_mask mask j ≡ t → (If (a && b) && not t then mask + bit_of j else mask) < 256
+    go true p true q false e = unfold If◌then◌else◌ in (bit_room mask j (leb-true 1 j (sym p)) (leb-true j 8 (sym q)) h e)
+    go true p true q true e = unfold If◌then◌else◌ in h
+    go true p false q t e = unfold If◌then◌else◌ in h
+    go false p b q t e = unfold If◌then◌else◌ in h
+
+insert_swap : (mask i j : ℕ) → mask < 256 → insert_of (insert_of mask i) j ≡ insert_of (insert_of mask j) i
+insert_swap mask i j h = go (within_or i) (within_or j)
+  where
+    within_or : (k : ℕ) → (within 1 8 k ≡ false) ⊎ ((1 ≤ k) × (k ≤ 8))
+    within_or k = ways (leb 1 k) refl (leb k 8) refl
+      where
+        ways : (a : Bool) → a ≡ leb 1 k → (b : Bool) → b ≡ leb k 8 → ((a && b) ≡ false) ⊎ ((1 ≤ k) × (k ≤ 8))
+        ways true p true q = inr (leb-true 1 k (sym p), leb-true k 8 (sym q))
+        ways true p false q = inl refl
+        ways false p b q = inl refl
+
+    either : (a b c : Bool) → (a || (b || c)) ≡ (b || (a || c))
+    either true true c = refl
+    either true false c = refl
+    either false b c = refl
+
+    go : (within 1 8 i ≡ false) ⊎ ((1 ≤ i) × (i ≤ 8)) → (within 1 8 j ≡ false) ⊎ ((1 ≤ j) × (j ≤ 8)) → insert_of (insert_of mask i) j ≡ insert_of (insert_of mask j) i
+    go (inl e) r = rw (insert_out mask i e, insert_out (insert_of mask j) i e)
+    go (inr l) (inl e) = rw (insert_out mask j e, insert_out (insert_of mask i) j e)
+    go (inr l) (inr k) =
+        same_mask _ _ (insert_small (insert_of mask i) j (insert_small mask i h)) (insert_small (insert_of mask j) i (insert_small mask j h))
+        (λ x.
+        rw (in_insert (insert_of mask i) j k.0 k.1 x, in_insert mask i l.0 l.1 x, in_insert (insert_of mask j) i l.0 l.1 x, in_insert mask j k.0 k.1 x)
+        (either (eqb x j) (eqb x i) (in_mask mask x)))
+
+-- the shards of the items put into a set, first to last
+abbrev pub joined : ℕ → ℕ → List Item → ℕ
+joined m mask [] = mask
+joined m mask (x ∷ xs) = joined m (insert_of mask (shard_number m x.key)) xs
+
+joined_insert : (m mask j : ℕ) (xs : List Item) → mask < 256 → joined m (insert_of mask j) xs ≡ insert_of (joined m mask xs) j
+joined_insert m mask j [] h = refl
+joined_insert m mask j (x ∷ xs) h =
+    ap (λ n. joined m n xs) (insert_swap mask j (shard_number m x.key) h)
+    ∙ joined_insert m (insert_of mask (shard_number m x.key)) j xs (insert_small mask (shard_number m x.key) h)
+
+pub joined_all : (m : ℕ) (xs : List Item) → joined m 0 xs ≡ touched_mask m xs
+joined_all m [] = refl
+joined_all m (x ∷ xs) =
+    joined_insert m 0 (shard_number m x.key) xs (omega arith) ∙ ap (λ n. insert_of n (shard_number m x.key)) (joined_all m xs)

@@ -1,13 +1,13 @@
 -- What each function of the crate gives, on the records as they lie: every field and every element is determined, for
 -- every input. What it means in the rules' words is in View.
 -- Assumes nothing.
-use Rattle.std.specs.Prelude.{Bool, true, false, not, ◌&&◌, List, [], ◌∷◌, ◌++◌, ℕ, ◌+◌, ◌-◌, ◌/◌, ◌%◌, ◌^◌, length, set, take, replicate}
-use Rattle.rules.specs.Lists.{If◌then◌else◌, ◌<?◌, ◌=?◌, within}
+use Rattle.std.specs.Prelude.{◌≡◌, Bool, true, false, not, ◌&&◌, List, [], ◌∷◌, ◌++◌, ℕ, ◌+◌, ◌-◌, ◌/◌, ◌%◌, ◌^◌, length, set, take, replicate}
+use Rattle.rules.specs.Lists.{If◌then◌else◌, ◌=?◌, within}
 use Rattle.rules.specs.Transactions.{shard_of}
 use Rattle.frames.specs.declared.Item.{Item}
 use Rattle.frames.specs.Frames.{no_item}
 use Rattle.entry.specs.declared.Entry.{Entry}
-use Rattle.entry.specs.declared.Part.{Part}
+use Rattle.frames.specs.declared.Items.{Items}
 
 -- ---- Sets of shards, 1..8, as one byte
 
@@ -34,9 +34,6 @@ is_empty_of mask = mask =? 0
 unfoldable pub shard_number : ℕ → ℕ → ℕ
 shard_number m key = If m =? 0 then 0 else shard_of m key
 
-abbrev pub touch_of : ℕ → ℕ → Bool → Item → ℕ
-touch_of mask m there x = If there then insert_of mask (shard_number m x.key) else mask
-
 abbrev pub touched_mask : ℕ → List Item → ℕ
 touched_mask m [] = 0
 touched_mask m (x ∷ xs) = insert_of (touched_mask m xs) (shard_number m x.key)
@@ -47,20 +44,21 @@ touched_of m count items = touched_mask m (take count items)
 -- ---- Parts of a list
 
 -- some items, at most 4, in the first slots; the others are zero
-abbrev pub part_of : List Item → Part
+abbrev pub part_of : List Item → Items
 part_of xs = record { count = length xs; items = xs ++ replicate (4 - length xs) no_item }
 
-abbrev pub no_part : Part
+abbrev pub no_part : Items
 no_part = part_of []
-
-unfoldable pub with_of : Part → Bool → Item → Part
-with_of p wanted x = If wanted && p.count <? 4 then record { count = p.count + 1; items = set p.items p.count x } else p
 
 -- those of ys that stand beside an item of xs that passes a test
 abbrev pub beside : (Item → Bool) → List Item → List Item → List Item
 beside ok [] ys = []
 beside ok (x ∷ xs) [] = []
 beside ok (x ∷ xs) (y ∷ ys) = If ok x then y ∷ beside ok xs ys else beside ok xs ys
+
+-- the part is those of ys that stand beside an item of xs that passes a test, of which only what a call of it gives is known
+abbrev pub PicksBeside : (Item → Bool → Type 0) → List Item → List Item → Items → Type 0
+PicksBeside gives xs ys part = (ok : Item → Bool) → ((x : Item) (r : Bool) → gives x r → r ≡ ok x) → part ≡ part_of (beside ok xs ys)
 
 abbrev pub is_on : ℕ → ℕ → Item → Bool
 is_on m shard x = shard_number m x.key =? shard
@@ -72,10 +70,10 @@ is_get x = x.code =? 0
 abbrev pub chosen : (Item → Bool) → ℕ → List Item → List Item
 chosen ok count items = beside ok (take count items) items
 
-unfoldable pub part_on : ℕ → ℕ → ℕ → List Item → Part
+unfoldable pub part_on : ℕ → ℕ → ℕ → List Item → Items
 part_on m shard count items = part_of (chosen (is_on m shard) count items)
 
-unfoldable pub gets_of : ℕ → List Item → Part
+unfoldable pub gets_of : ℕ → List Item → Items
 gets_of count items = part_of (chosen is_get count items)
 
 -- ---- The same operations, the same places
@@ -86,6 +84,12 @@ agree same [] [] = true
 agree same [] (y ∷ ys) = false
 agree same (x ∷ xs) [] = false
 agree same (x ∷ xs) (y ∷ ys) = same x y && agree same xs ys
+
+-- two lists are as long and agree by a comparison, of which only what a call of it gives is known
+abbrev pub ComparesBy : (Item → Item → Bool → Type 0) → Items → Items → Bool → Type 0
+ComparesBy gives a b r =
+    (same : Item → Item → Bool) → ((x y : Item) (s : Bool) → gives x y s → s ≡ same x y)
+    → r ≡ (a.count =? b.count && agree same (take a.count a.items) (take b.count b.items))
 
 abbrev pub same_operation : Item → Item → Bool
 same_operation x y = x.code =? y.code && x.key =? y.key && x.value =? y.value
@@ -107,9 +111,6 @@ abbrev pub stored_all : List Item → List Item → List Item
 stored_all reads [] = reads
 stored_all reads (r ∷ rs) = stored_all (set reads r.place r) rs
 
-abbrev pub keep_read : List Item → Bool → Item → List Item
-keep_read reads there r = If there then set reads r.place r else reads
-
 unfoldable pub stored_of : List Item → ℕ → List Item → List Item
 stored_of reads count rs = stored_all reads (take count rs)
 
@@ -117,10 +118,14 @@ stored_of reads count rs = stored_all reads (take count rs)
 abbrev pub answered_of : ℕ → ℕ → Item → Bool
 answered_of m left x = is_get x && not (in_mask left (shard_number m x.key))
 
-unfoldable pub reads_held : ℕ → Entry → Part
+unfoldable pub reads_held : ℕ → Entry → Items
 reads_held m e = part_of (beside (answered_of m e.remaining) (take e.count e.items) e.reads)
 
 -- ---- Entries
+
+-- the operations of an entry
+abbrev pub list_of : Entry → Items
+list_of e = record { count = e.count; items = e.items }
 
 abbrev pub no_items : List Item
 no_items = replicate 4 no_item

@@ -3,13 +3,14 @@
 // What each function means in the rules' words stands in specs/View.antt and is proved in proofs/Meaning.antt.
 #![tactic(auto)]
 
-ghost use Rattle.std.specs.Prelude.{◌≡◌, true, false, ◌≤◌};
-ghost use Rattle.entry.specs.Model.{bit_of, in_mask, insert_of, strike_of, is_empty_of, shard_number, touch_of, touched_of, no_part, with_of, part_on, gets_of, same_operation, same_operations_of, same_write_of, fits_of, keep_read, stored_of, answered_of, reads_held, no_entry, new_entry_of, heard_from_of, finished_of};
+ghost use Rattle.std.specs.Prelude.{◌≡◌, true, false, ◌≤◌, take};
+ghost use Rattle.entry.specs.Model.{bit_of, in_mask, insert_of, strike_of, is_empty_of, shard_number, touched_of, PicksBeside, part_on, gets_of, ComparesBy, same_operation, same_operations_of, same_write_of, fits_of, stored_of, answered_of, reads_held, list_of, no_entry, new_entry_of, heard_from_of, finished_of};
 
-use frames::Item;
+use frames::{Item, Items};
 
 // An entry of the log. items: the operations, each at its place. reads: slot p has what the get at place p saw, once its
 // shard was heard from; a slot without a read is zero. So reads stand by rising place, whichever answer came first.
+// C lays it out, so count and items stand flat here; `list` gives them together.
 #[repr(C)]
 #[derive(Clone, Copy)]
 pub struct Entry {
@@ -22,48 +23,31 @@ pub struct Entry {
     pub remaining: u8,
 }
 
-// Some items of a list, in their order: the first count. The slots behind them are zero.
-#[derive(Clone, Copy)]
-pub struct Part {
-    pub count: u8,
-    pub items: [Item; 4],
-}
-
 // ---- Sets of shards
 
+// Is the shard in the set? No set has a shard outside 1..8.
 pub fn in_mask(mask: u8, shard: u8) -> bool
     ensures { result ≡ in_mask mask shard }
 {
-    if shard < 1 {
-        return false;
-    }
-    if 8 < shard {
-        return false;
-    }
-    (mask >> (shard - 1)) % 2 == 1
+    (1..=8).contains(&shard) && (mask >> (shard - 1)) % 2 == 1
 }
 
 fn bit(shard: u8) -> u8
     requires { (1 ≤ shard) × (shard ≤ 8) }
     ensures { result ≡ bit_of shard }
 {
-    1u8 << (shard - 1)
+    1 << (shard - 1)
 }
 
 // The set with the shard. There is no shard 0, nor one above 8.
 pub fn insert(mask: u8, shard: u8) -> u8
     ensures { result ≡ insert_of mask shard }
 {
-    if shard < 1 {
-        return mask;
+    if (1..=8).contains(&shard) && !in_mask(mask, shard) {
+        mask + bit(shard)
+    } else {
+        mask
     }
-    if 8 < shard {
-        return mask;
-    }
-    if in_mask(mask, shard) {
-        return mask;
-    }
-    mask + bit(shard)
 }
 
 // The set without the shard.
@@ -77,6 +61,7 @@ pub fn strike(mask: u8, shard: u8) -> u8
     }
 }
 
+// The set has no shard.
 pub fn is_empty(mask: u8) -> bool
     ensures { result ≡ is_empty_of mask }
 {
@@ -89,258 +74,188 @@ pub fn is_empty(mask: u8) -> bool
 pub fn shard_of(m: u8, key: u8) -> u8
     ensures { result ≡ shard_number m key }
 {
-    if m == 0 {
-        return 0;
-    }
-    key % m + 1
+    if m == 0 { 0 } else { key % m + 1 }
 }
 
-fn touch(mask: u8, m: u8, there: bool, x: Item) -> u8
-    ensures { result ≡ touch_of mask m there x }
+// The shards that the operations of the list touch.
+pub fn touched(m: u8, list: Items) -> u8
+    ensures { result ≡ touched_of m list.count list.items }
 {
-    if there {
-        insert(mask, shard_of(m, x.key))
-    } else {
-        mask
+    let mut mask = 0;
+    for operation in list.as_slice() {
+        mask = insert(mask, shard_of(m, operation.key));
     }
-}
-
-// The shards that the first count operations touch.
-pub fn touched(m: u8, count: u8, items: [Item; 4]) -> u8
-    ensures { result ≡ touched_of m count items }
-{
-    let d = touch(0, m, 3 < count, items[3]);
-    let c = touch(d, m, 2 < count, items[2]);
-    let b = touch(c, m, 1 < count, items[1]);
-    touch(b, m, 0 < count, items[0])
+    mask
 }
 
 // ---- Parts of a list
 
-fn no_part() -> Part
-    ensures { result ≡ no_part }
+// Those of ys that stand beside an item of the list that passes the test.
+fn beside<F: Fn(Item) -> bool>(list: Items, ys: [Item; 4], passes: F) -> Items
+    requires { F.IsAlwaysCallable passes }
+    ensures { PicksBeside (F.post passes) (take list.count list.items) ys result }
 {
-    let z = frames::no_item();
-    let items = [z; 4];
-    Part {
-        count: 0,
-        items: items,
-    }
-}
-
-impl Part {
-    // One item more, if it is wanted.
-    fn with(mut self, wanted: bool, x: Item) -> Self
-        ensures { result ≡ with_of self wanted x }
-    {
-        if !wanted {
-            return self;
+    let mut part = Items::new();
+    for (x, y) in list.as_slice().iter().zip(&ys) {
+        if passes(*x) {
+            part.push(*y);
         }
-        let at = self.count as usize;
-        if 4 <= at {
-            return self;
-        }
-        self.items[at] = x;
-        self.count = self.count + 1;
-        self
     }
+    part
 }
 
 // The operations on one shard, their places those in the whole list: 004's T|j.
-pub fn part_on(m: u8, shard: u8, count: u8, items: [Item; 4]) -> Part
-    ensures { result ≡ part_on m shard count items }
+pub fn part_on(m: u8, shard: u8, list: Items) -> Items
+    ensures { result ≡ part_on m shard list.count list.items }
 {
-    let a = items[0];
-    let b = items[1];
-    let c = items[2];
-    let d = items[3];
-    no_part()
-        .with((0 < count) & (shard_of(m, a.key) == shard), a)
-        .with((1 < count) & (shard_of(m, b.key) == shard), b)
-        .with((2 < count) & (shard_of(m, c.key) == shard), c)
-        .with((3 < count) & (shard_of(m, d.key) == shard), d)
+    beside(list, list.items, |x| shard_of(m, x.key) == shard)
 }
 
 // The gets, in their order.
-fn gets_of(count: u8, items: [Item; 4]) -> Part
-    ensures { result ≡ gets_of count items }
+fn gets_of(list: Items) -> Items
+    ensures { result ≡ gets_of list.count list.items }
 {
-    let a = items[0];
-    let b = items[1];
-    let c = items[2];
-    let d = items[3];
-    no_part()
-        .with((0 < count) & (a.code == 0), a)
-        .with((1 < count) & (b.code == 0), b)
-        .with((2 < count) & (c.code == 0), c)
-        .with((3 < count) & (d.code == 0), d)
+    beside(list, list.items, |x| x.code == 0)
 }
 
 // ---- The same operations
 
+// Two lists are as long, and agree item by item.
+fn agree<F: Fn(Item, Item) -> bool>(a: Items, b: Items, same: F) -> bool
+    requires { F.IsAlwaysCallable same }
+    ensures { ComparesBy (F.post same) a b result }
+{
+    a.count == b.count
+        && a.as_slice()
+            .iter()
+            .zip(b.as_slice())
+            .all(|(x, y)| same(*x, *y))
+}
+
+// No `==`, since places are not compared.
 fn same_operation(x: Item, y: Item) -> bool
     ensures { result ≡ same_operation x y }
 {
-    (x.code == y.code) & (x.key == y.key) & (x.value == y.value)
+    x.code == y.code && x.key == y.key && x.value == y.value
 }
 
-pub fn same_operations(count: u8, xs: [Item; 4], other: u8, ys: [Item; 4]) -> bool
-    ensures { result ≡ same_operations_of count xs other ys }
+// The same codes, keys and values in the same order; an operation's place is its index.
+pub fn same_operations(a: Items, b: Items) -> bool
+    ensures { result ≡ same_operations_of a.count a.items b.count b.items }
 {
-    (count == other)
-        & ((count <= 0) | same_operation(xs[0], ys[0]))
-        & ((count <= 1) | same_operation(xs[1], ys[1]))
-        & ((count <= 2) | same_operation(xs[2], ys[2]))
-        & ((count <= 3) | same_operation(xs[3], ys[3]))
+    agree(a, b, same_operation)
 }
 
-// "the places of the entry's gets": read places are exactly those of the gets among the first count items.
-pub fn fits(count: u8, items: [Item; 4], read_count: u8, reads: [Item; 4]) -> bool
-    ensures { result ≡ fits_of count items read_count reads }
+// "the places of the entry's gets": read places are exactly those of the gets among the operations.
+pub fn fits(operations: Items, reads: Items) -> bool
+    ensures { result ≡ fits_of operations.count operations.items reads.count reads.items }
 {
-    let gets = gets_of(count, items);
-    let xs = gets.items;
-    (gets.count == read_count)
-        & ((gets.count <= 0) | (xs[0].place == reads[0].place))
-        & ((gets.count <= 1) | (xs[1].place == reads[1].place))
-        & ((gets.count <= 2) | (xs[2].place == reads[2].place))
-        & ((gets.count <= 3) | (xs[3].place == reads[3].place))
+    agree(gets_of(operations), reads, |x, y| x.place == y.place)
 }
 
 // ---- Reads
 
-fn keep_read(reads: [Item; 4], there: bool, x: Item) -> [Item; 4]
-    ensures { result ≡ keep_read reads there x }
+// The reads with those of the list stored, each at its place; there is no place above 3.
+pub fn stored(mut reads: [Item; 4], list: Items) -> [Item; 4]
+    ensures { result ≡ stored_of reads list.count list.items }
 {
-    if !there {
-        return reads;
+    for read in list.as_slice() {
+        let at = read.place as usize;
+        if at < 4 {
+            reads[at] = *read;
+        }
     }
-    let at = x.place as usize;
-    if 4 <= at {
-        return reads;
-    }
-    let mut rs = reads;
-    rs[at] = x;
-    rs
-}
-
-// The first count reads, each at its place.
-pub fn stored(reads: [Item; 4], count: u8, rs: [Item; 4]) -> [Item; 4]
-    ensures { result ≡ stored_of reads count rs }
-{
-    let a = keep_read(reads, 0 < count, rs[0]);
-    let b = keep_read(a, 1 < count, rs[1]);
-    let c = keep_read(b, 2 < count, rs[2]);
-    keep_read(c, 3 < count, rs[3])
+    reads
 }
 
 // A get whose shard was heard from.
 fn answered(m: u8, left: u8, x: Item) -> bool
     ensures { result ≡ answered_of m left x }
 {
-    (x.code == 0) & !in_mask(left, shard_of(m, x.key))
+    x.code == 0 && !in_mask(left, shard_of(m, x.key))
 }
 
 // ---- Entries
 
-// No entry: what a free place of a log holds. Inlined, it would make a board's start take 91,000 bytes of stack in place of 50,000.
-#[inline(never)]
+// No entry: what a free place of a log holds.
 pub fn no_entry() -> Entry
     ensures { result ≡ no_entry }
 {
-    let z = frames::no_item();
-    let items = [z; 4];
-    let reads = [z; 4];
     Entry {
         client: 0,
         number: 0,
         count: 0,
-        items: items,
+        items: [frames::no_item(); 4],
         exe: false,
-        reads: reads,
+        reads: [frames::no_item(); 4],
         remaining: 0,
     }
 }
 
 // "append as PRE": no reads yet, and all shards that the keys touch remain.
-pub fn new_entry(m: u8, client: u8, number: u16, count: u8, items: [Item; 4]) -> Entry
-    ensures { result ≡ new_entry_of m client number count items }
+pub fn new_entry(m: u8, client: u8, number: u16, list: Items) -> Entry
+    ensures { result ≡ new_entry_of m client number list.count list.items }
 {
-    let z = frames::no_item();
-    let reads = [z; 4];
-    let remaining = touched(m, count, items);
+    let remaining = touched(m, list);
+    let Items { count, items } = list;
     Entry {
-        client: client,
-        number: number,
-        count: count,
-        items: items,
+        client,
+        number,
+        count,
+        items,
         exe: false,
-        reads: reads,
-        remaining: remaining,
+        reads: [frames::no_item(); 4],
+        remaining,
     }
 }
 
 impl Entry {
-    // Is this the entry of that client's number, with these operations?
-    pub fn same_write(self, client: u8, number: u16, count: u8, items: [Item; 4]) -> bool
-        ensures { result ≡ same_write_of self client number count items }
+    // The operations.
+    pub fn list(&self) -> Items
+        ensures { result ≡ list_of self.now }
     {
-        let xs = self.items;
-        (self.client == client)
-            & (self.number == number)
-            & same_operations(self.count, xs, count, items)
+        Items {
+            count: self.count,
+            items: self.items,
+        }
+    }
+
+    // Is this the entry of that client's number, with these operations?
+    pub fn same_write(&self, client: u8, number: u16, list: Items) -> bool
+        ensures { result ≡ same_write_of self.now client number list.count list.items }
+    {
+        self.client == client && self.number == number && same_operations(self.list(), list)
     }
 
     // The stored reads, by rising place: those of the gets whose shard remains no more.
-    pub fn reads_of(self, m: u8) -> Part
-        ensures { result ≡ reads_held m self }
+    pub fn reads_of(&self, m: u8) -> Items
+        ensures { result ≡ reads_held m self.now }
     {
-        let count = self.count;
-        let left = self.remaining;
-        let xs = self.items;
-        let rs = self.reads;
-        no_part()
-            .with((0 < count) & answered(m, left, xs[0]), rs[0])
-            .with((1 < count) & answered(m, left, xs[1]), rs[1])
-            .with((2 < count) & answered(m, left, xs[2]), rs[2])
-            .with((3 < count) & answered(m, left, xs[3]), rs[3])
+        beside(self.list(), self.reads, |x| answered(m, self.remaining, x))
     }
 
     // "strike the shard from remaining, store the reads. When none remains: EXE"
-    pub fn heard_from(self, shard: u8, count: u8, rs: [Item; 4]) -> Entry
-        ensures { result ≡ heard_from_of self shard count rs }
+    pub fn heard_from(self, shard: u8, list: Items) -> Entry
+        ensures { result ≡ heard_from_of self shard list.count list.items }
     {
-        let left = strike(self.remaining, shard);
-        let items = self.items;
-        let old = self.reads;
-        let reads = stored(old, count, rs);
+        let remaining = strike(self.remaining, shard);
         Entry {
-            client: self.client,
-            number: self.number,
-            count: self.count,
-            items: items,
-            exe: is_empty(left),
-            reads: reads,
-            remaining: left,
+            exe: is_empty(remaining),
+            reads: stored(self.reads, list),
+            remaining,
+            ..self
         }
     }
 
     // "EXE, store the reads, remaining empty"
-    pub fn finished(self, count: u8, rs: [Item; 4]) -> Entry
-        ensures { result ≡ finished_of self count rs }
+    pub fn finished(self, list: Items) -> Entry
+        ensures { result ≡ finished_of self list.count list.items }
     {
-        let z = frames::no_item();
-        let none = [z; 4];
-        let items = self.items;
-        let reads = stored(none, count, rs);
         Entry {
-            client: self.client,
-            number: self.number,
-            count: self.count,
-            items: items,
             exe: true,
-            reads: reads,
+            reads: stored([frames::no_item(); 4], list),
             remaining: 0,
+            ..self
         }
     }
 }

@@ -38,8 +38,8 @@ laid f at n l m h en em =
 written_small : (f : Frame) (room : ℕ) → written_of f room ≤ room
 unfolding written_of fits
 written_small f room =
-    by (λ (n : ℕ). n ≤ room) (leb f.count 4 && leb (length (frame_bytes f)) room)
-    (λ t. leb→le (length (frame_bytes f)) room (and_r (leb f.count 4) (leb (length (frame_bytes f)) room) t)) (λ t. omega arith)
+    by (λ (n : ℕ). n ≤ room) (leb f.list.count 4 && leb (length (frame_bytes f)) room)
+    (λ t. leb→le (length (frame_bytes f)) room (and_r (leb f.list.count 4) (leb (length (frame_bytes f)) room) t)) (λ t. omega arith)
 
 pub end_small : (f : Frame) (at n : ℕ) (l : List ℕ) → at ≤ length l → n ≡ written_of f (length (take (length l - at) (drop at l))) → at + n ≤ length l
 end_small f at n l h e =
@@ -49,7 +49,7 @@ end_small f at n l h e =
 -- ---- The laws for callers
 
 -- p stands in front, and a frame is written behind it
-pub ends_behind : (f : Frame) (p l : List ℕ) → f.count ≤ 4 → length (p ++ frame_bytes f) ≤ length l → end_of f (length p) (length l) ≡ length (p ++ frame_bytes f)
+pub ends_behind : (f : Frame) (p l : List ℕ) → f.list.count ≤ 4 → length (p ++ frame_bytes f) ≤ length l → end_of f (length p) (length l) ≡ length (p ++ frame_bytes f)
 unfolding end_of If◌then◌else◌
 ends_behind f p l k h =
     let e = length-append p (frame_bytes f) in
@@ -57,7 +57,7 @@ ends_behind f p l k h =
     let r : length (frame_bytes f) ≤ length l - length p = omega arith in
     simp (le-leb (length p) (length l) a, writes f (length l - length p) k r) (sym e)
 
-pub lays_behind : (f : Frame) (p l : List ℕ) → f.count ≤ 4 → length (p ++ frame_bytes f) ≤ length l
+pub lays_behind : (f : Frame) (p l : List ℕ) → f.list.count ≤ 4 → length (p ++ frame_bytes f) ≤ length l
     → laid_behind f (length p) (p ++ drop (length p) l) ≡ (p ++ frame_bytes f) ++ drop (length (p ++ frame_bytes f)) l
 unfolding laid_behind If◌then◌else◌
 lays_behind f p l k h =

@@ -3,6 +3,7 @@ pub mod Puts
 pub mod Behind
 pub mod Lists
 pub mod Round
-pub mod Items
+pub mod Slots
 pub mod Meaning
 pub mod Ruled
+pub mod Rising

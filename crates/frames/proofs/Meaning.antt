@@ -4,11 +4,14 @@ use mathlib.Core.Path.{◌≡◌, refl, sym, ap, ◌∙◌}
 use mathlib.Core.Bool.{Bool, true, false, ◌&&◌}
 use mathlib.Core.List.{List, [], ◌∷◌, ◌++◌, map}
 use mathlib.Core.Option.{Option, none, some}
+use Rattle.std.specs.Prelude as Std
+use Rattle.std.specs.Prelude.{Some, None, MatchOption}
 use Prim.Native.Nat.{ℕ, zero, suc, ◌+◌, ◌≤◌}
 use native.Mathlib.Omega.{arith}
-use lib.ListN.{length, take}
+use lib.ListN.{length, take, drop}
+use Rattle.std.proofs.lemmas.List.{take-append-drop}
 use lib.Dec.{T, leb, leb→le, le→leb}
-use Rattle.rules.specs.Lists.{If◌then◌else◌, within, every}
+use Rattle.rules.specs.Lists.{within, every}
 use Rattle.rules.specs.Transactions as R
 use Rattle.rules.specs.Frames as F
 use Rattle.rules.specs.Frames.{submit, forward, shard_append, exec_notif, executed, response, two, operation_bytes, placed_bytes, read_bytes, back_to_back, ok_client, ok_number, ok_ind, ok_operation, ok_operations, ok_write, ok_placed, ok_reads, ok_seen, rising, obeys, encode, decode, with_length}
@@ -21,11 +24,11 @@ use Rattle.frames.specs.declared.Head.{Head}
 use Rattle.frames.specs.declared.Head.TheVariants.{Bad, Submit, Forward, ShardAppend, ExecNotif, Executed, Response}
 use Rattle.frames.specs.declared.Frame.{Frame}
 use Rattle.frames.specs.declared.Front.{Front}
-use Rattle.frames.specs.Frames.{kind_of, field_bytes, shape_of, is_bad, item_bytes, header_bytes, list_bytes, frame_bytes, len_of, ok_item, ok_from, ok_items, ok_window, ok_head, valid, bad_frame, no_front, read_front, read_frame, frames_bytes}
+use Rattle.frames.specs.Frames.{kind_of, field_bytes, shape_of, is_bad, item_bytes, header_bytes, list_bytes, frame_bytes, len_of, ok_item, ok_from, ok_items, ok_window, ok_head, valid, bad_frame, read_front, read_frame, frames_bytes}
 use Rattle.frames.specs.View.{view_last, as_operation, as_placed, as_read, operations_of, placed_of, reads_of, answer_of, answer_to, meant, meaning, encoded, Bytes, Canon, CanonFrom, CanonFrame, operation_items, placed_item, read_item, filled, record_of}
 use Rattle.frames.proofs.Puts.{bad_bytes, frame_bytes_lem, length_framed}
-use Rattle.frames.proofs.Round.{enough, head_of_lem, items_of_lem, fronts, Spells, reads, frame_back}
-use Rattle.frames.proofs.Items as I
+use Rattle.frames.proofs.Round.{enough, head_of_lem, items_of_lem, fronts, Spells, reads, front_back, frame_back}
+use Rattle.frames.proofs.Slots as I
 
 -- ---- The bytes
 
@@ -80,16 +83,16 @@ bad_means (Executed log) n xs b = let z : ◌≡◌ {A = ℕ} 0 1 = cc in absurd
 bad_means (Response client number) n xs b = let z : ◌≡◌ {A = ℕ} 0 1 = cc in absurd (omega arith)
 
 -- the writer's bytes are the rules' bytes of what the record means, if its items are right
-pub writes_mean : (f : Frame) → T (ok_items f.count f.items) → frame_bytes f ≡ encoded (meaning f)
+pub writes_mean : (f : Frame) → T (ok_items f.list.count f.list.items) → frame_bytes f ≡ encoded (meaning f)
 unfolding meaning rest
 writes_mean f t = go (is_bad f.head) refl
   where
-    go : (b : Bool) → is_bad f.head ≡ b → frame_bytes f ≡ encoded (meant f.head f.count f.items)
-    go true e = bad_bytes f e ∙ ap encoded (sym (bad_means f.head f.count f.items e))
+    go : (b : Bool) → is_bad f.head ≡ b → frame_bytes f ≡ encoded (meant f.head f.list.count f.list.items)
+    go true e = bad_bytes f e ∙ ap encoded (sym (bad_means f.head f.list.count f.list.items e))
     go false e =
         let h = f.head in
-        let n = f.count in
-        let xs = f.items in
+        let n = f.list.count in
+        let xs = f.list.items in
         let r : List ℕ = rest h n xs in
         let l : len_of h n ≡ length r = omega (arith, length_framed (len_of h n) h n xs (enough 0 n xs t)) in
         frame_bytes_lem f e ∙ (λ i. two (l i) ++ r) ∙ ap with_length (rest_bytes h n xs e t) ∙ encoded_rest h n xs e
@@ -167,12 +170,12 @@ head_obeys (ExecNotif shard log) n xs v u t c = and (within 1 8 shard && ok_ind 
 head_obeys (Executed log) n xs v u t c = and (ok_ind log) (ok_reads (reads_of n xs)) v (reads_obey n xs u t c)
 head_obeys (Response client number) n xs v u t c = and (ok_client client && ok_number number) (ok_reads (reads_of n xs)) v (reads_obey n xs u t c)
 
-small : (f : Frame) → T (valid f) → CanonFrame f → f.count ≤ 4
-small f v (e, c) = let k = enough 0 f.count f.items (items_of_lem f v) in omega arith
+small : (f : Frame) → T (valid f) → CanonFrame f → f.list.count ≤ 4
+small f v (e, c) = let k = enough 0 f.list.count f.list.items (items_of_lem f v) in omega arith
 
 obeying : (f : Frame) → T (valid f) → CanonFrame f → Obeying (meaning f)
 unfolding meaning
-obeying f v c = head_obeys f.head f.count f.items (head_of_lem f v) (small f v c) (items_of_lem f v) c.1
+obeying f v c = head_obeys f.head f.list.count f.list.items (head_of_lem f v) (small f v c) (items_of_lem f v) c.1
 
 pub valid_obeys : (f : Frame) (g : F.Frame) → T (valid f) → CanonFrame f → meaning f ≡ some g → T (obeys g)
 unfolding Obeying
@@ -314,7 +317,7 @@ says : (f : Frame) → T (valid f) → meaning f ≡ none → ⊥
 unfolding meaning
 says f v e = go f.head (head_of_lem f v) e
   where
-    go : (h : Head) → T (ok_head h f.count) → meant h f.count f.items ≡ none → ⊥
+    go : (h : Head) → T (ok_head h f.list.count) → meant h f.list.count f.list.items ≡ none → ⊥
     go Bad t e = t
     go (Submit a b c) t e = nothing (sym e)
     go (Forward a b c d) t e = nothing (sym e)
@@ -356,7 +359,7 @@ pub promised : (s : List ℕ) (f : Frame) → Bytes s → f ≡ read_frame s →
 unfolding meaning
 promised s f b e =
     let m : meaning f ≡ decode s = ap meaning e ∙ reads_mean s b in
-    (answer_means f.head f.count f.items ∙ ap answer_to m, m)
+    (answer_means f.head f.list.count f.list.items ∙ ap answer_to m, m)
 
 -- ---- What an agent needs of a frame that it read, and of one that it sends
 
@@ -415,11 +418,11 @@ speaks (ExecNotif a b) n xs g e = refl
 speaks (Executed a) n xs g e = refl
 speaks (Response a b) n xs g e = refl
 
-pub valid_of : (f : Frame) (g : F.Frame) → T (ok_items f.count f.items) → meaning f ≡ some g → T (obeys g) → T (valid f)
+pub valid_of : (f : Frame) (g : F.Frame) → T (ok_items f.list.count f.list.items) → meaning f ≡ some g → T (obeys g) → T (valid f)
 unfolding valid meaning Obeying
 valid_of f g t e o =
-    let m : Obeying (meant f.head f.count f.items) = rw e o in
-    and (ok_head f.head f.count) (ok_items f.count f.items) (head_allowed f.head f.count f.items (speaks f.head f.count f.items g e) t m) t
+    let m : Obeying (meant f.head f.list.count f.list.items) = rw e o in
+    and (ok_head f.head f.list.count) (ok_items f.list.count f.list.items) (head_allowed f.head f.list.count f.list.items (speaks f.head f.list.count f.list.items g e) t m) t
 
 pub last_one : (p q : ℕ) → view_last p ≡ view_last q → p ≡ q
 last_one zero zero e = refl
@@ -433,18 +436,30 @@ bytes_take (suc n) [] b i = omega arith
 bytes_take (suc n) (x ∷ s) b zero = b zero
 bytes_take (suc n) (x ∷ s) b (suc i) = bytes_take n s (λ j. b (suc j)) i
 
--- the reader of a front means the rules' reading of the bytes up to the end that it gives
-pub front_means : (s : List ℕ) → Bytes s → meaning (read_front s).frame ≡ decode (take (read_front s).end s)
+-- the reader of a front means the rules' reading of the bytes up to the end that it gives; where it gives none, no beginning of the bytes is a frame
+pub front_means : (s : List ℕ) → Bytes s → MatchOption (read_front s) ((n : ℕ) → decode (take n s) ≡ none) (λ r. meaning r.frame ≡ decode (take r.end s))
 front_means s b =
-    fronts s b (λ (r : Front). meaning r.frame ≡ decode (take r.end s)) (unfold no_front bad_frame meaning decode F.candidate F.spelled If◌then◌else◌ in refl)
-    (λ r g. ap meaning (sym (frame_back r.frame g.right g.canon) ∙ ap read_frame g.bytes) ∙ reads_mean (take r.end s) (bytes_take r.end s b))
+    fronts s b (λ o. read_front s ≡ o → MatchOption o ((n : ℕ) → decode (take n s) ≡ none) (λ r. meaning r.frame ≡ decode (take r.end s)))
+    (λ e n. refused e n (decode (take n s)) refl)
+    (λ r g e. ap meaning (sym (frame_back r.frame g.right g.canon) ∙ ap read_frame g.bytes) ∙ reads_mean (take r.end s) (bytes_take r.end s b)) refl
+  where
+    -- had the rules read a frame from a beginning, so had the reader
+    refused : read_front s ≡ None → (n : ℕ) → (o : Option F.Frame) → decode (take n s) ≡ o → decode (take n s) ≡ none
+    refused e n none d = d
+    refused e n (some g) d =
+        let p = decode_spells (take n s) g d in
+        let r = recorded g p.rules in
+        let w : frame_bytes (record_of g) ++ drop n s ≡ s = ap (λ (l : List ℕ). l ++ drop n s) (record-bytes g p.rules ∙ p.bytes) ∙ take-append-drop n s in
+        let q = rw w at (front_back (record_of g) (drop n s) r.right r.canon) in
+        let z : ◌≡◌ {A = Std.Option Front} None (Some (record { frame = record_of g; end = length (frame_bytes (record_of g)) })) = sym e ∙ q in
+        cc
 
 -- frames sent in turn have the rules' bytes, back to back
 abbrev pub Sends : List Frame → List F.Frame → Type 0
 Sends [] [] = Unit
 Sends [] (g ∷ gs) = ⊥
 Sends (f ∷ fs) [] = ⊥
-Sends (f ∷ fs) (g ∷ gs) = (T (ok_items f.count f.items) × (meaning f ≡ some g)) × Sends fs gs
+Sends (f ∷ fs) (g ∷ gs) = (T (ok_items f.list.count f.list.items) × (meaning f ≡ some g)) × Sends fs gs
 
 pub sent_bytes_lem : (fs : List Frame) (gs : List F.Frame) → Sends fs gs → frames_bytes fs ≡ back_to_back encode gs
 sent_bytes_lem [] [] h = refl

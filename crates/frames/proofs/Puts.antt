@@ -1,27 +1,25 @@
 -- Stores one behind the other are one store of all the bytes.
 -- Assumes nothing.
 use mathlib.Core.Path.{◌≡◌, refl, sym, ap, ◌∙◌}
-use mathlib.Core.Bool.{Bool, true, false, ◌||◌}
+use mathlib.Core.Bool.{Bool, true, false}
 use mathlib.Core.List.{List, [], ◌∷◌, ◌++◌, append_assoc, append-nil}
-use Prim.Native.Nat.{ℕ, zero, suc, ◌+◌, ◌*◌, ◌-◌, ◌/◌, ◌%◌, ◌<◌, ◌≤◌}
-use native.Mathlib.Nat.{mod-eq_of_lt, zero-add, add-zero, add-suc, suc-add, mul-suc, mul-zero, sub-zero, not-suc-le-zero, le_of_suc-le-suc}
+use Prim.Native.Nat.{ℕ, zero, suc, ◌+◌, ◌*◌, ◌<◌, ◌≤◌, min}
+use native.Mathlib.Numerals.{add-one}
+use native.Mathlib.Nat.{mul-le-mul_left, zero-add, add-zero, add-suc, suc-add, mul-suc, mul-zero, not-suc-le-zero, le_of_suc-le-suc}
 use native.Mathlib.Omega.{arith}
-use native.Mathlib.Decide.{dec_le}
-use lib.ListN.{length, get_or, take, drop, set, length-append}
-use lib.Arith.{digits_div, digits_mod}
-use lib.Dec.{ltb, eqb}
-use lib.Seq.{sets, sets-eq, take-nil}
-use borrow.Author.Tests.{lt-ltb, le-ltb, ltb-true, ltb-false, le-leb, lt-leb}
+use lib.ListN.{length, get_or, take, drop, set, length-append, length-take}
+use lib.Seq.{sets, length-sets, sets-eq, drop-drop, get_or-take}
+use borrow.Rule.Slice.PartMut.{put_mid}
+use borrow.Author.Tests.{le-leb, lt-leb}
 use Rattle.rules.specs.Lists.{If◌then◌else◌}
 use Rattle.rules.specs.Frames.{two, four}
 use Rattle.frames.specs.declared.Item.{Item}
 use Rattle.frames.specs.declared.Shape.{Shape}
 use Rattle.frames.specs.declared.Shape.TheVariants.{Operation, Placed, Read}
-use Rattle.frames.specs.Frames.{width, item_bytes, items_bytes, slot_bytes, list_bytes, no_item, Put, is_bad, kind_of, header_bytes, field_bytes, field_width, shape_of, len_of, framed, frame_bytes, fits, written_of, laid_of}
+use Rattle.frames.specs.Frames.{width, item_bytes, items_bytes, list_bytes, Put, is_bad, kind_of, header_bytes, field_bytes, field_width, shape_of, len_of, framed, frame_bytes, fits, written_of, laid_of}
 use Rattle.frames.specs.declared.Head.{Head}
 use Rattle.frames.specs.declared.Head.TheVariants.{Bad, Submit, Forward, ShardAppend, ExecNotif, Executed, Response}
 use Rattle.frames.specs.declared.Frame.{Frame}
-use Rattle.frames.proofs.Cases.{four_of}
 
 sets_append : (a b l : List ℕ) (i : ℕ) → sets (sets l i a) (i + length a) b ≡ sets l i (a ++ b)
 sets_append [] b l i = rw add-zero
@@ -35,20 +33,13 @@ behind {l} {m} {n} {at} {e} {d} {a} {b} p q =
       ended = q.ended ∙ rw (p.ended, length-append) (omega arith);
     }
 
--- no store
-pub none : (l : List ℕ) (at : ℕ) → Put l l at at []
-none l at = record { stored = refl; ended = sym (add-zero at) }
+-- the area stays as long as it was
+pub same_length : {l n : List ℕ} {at e : ℕ} {bs : List ℕ} → Put l n at e bs → length n ≡ length l
+same_length {l} {n} {at} {e} {bs} p = ap length p.stored ∙ length-sets l at bs
 
--- the bytes of a number's lower half are its own
-pub low_half : (x : ℕ) → two (x % 65536) ≡ two x
-low_half x =
-    let c : ℕ = x % 256 in
-    let b : ℕ = x / 256 % 256 in
-    let e : x ≡ x / 256 / 256 * 65536 + (b * 256 + c) = omega arith in
-    let k : b * 256 + c < 65536 = omega arith in
-    let h : c < 256 = omega arith in
-    let low : x % 65536 ≡ b * 256 + c = ap (λ (y : ℕ). y % 65536) e ∙ digits_mod (x / 256 / 256) k in
-    rw low (λ i. digits_mod b h i ∷ ((ap (λ (y : ℕ). y % 256) (digits_div b h) ∙ mod-eq_of_lt (omega arith)) i ∷ []))
+-- bytes that are copied over the part from `at` on
+pub put_part : (l m bs : List ℕ) (at k : ℕ) → at + length bs ≤ length l → k ≡ length bs → m ≡ bs → Put l (put_mid at k l m) at (at + length bs) bs
+put_part l m bs at k h e em = record { stored = rw (em, e, drop-drop, ← append_assoc) (sym (sets-eq bs l at h)); ended = refl }
 
 -- ---- Items
 
@@ -57,47 +48,13 @@ length_item Operation x = refl
 length_item Placed x = refl
 length_item Read x = refl
 
-pub width_small : (shape : Shape) → width shape ≤ 7
-width_small Operation = omega arith
-width_small Placed = omega arith
-width_small Read = omega arith
-
--- the slots from the i-th on, back to back
-abbrev slots_bytes : Shape → ℕ → ℕ → List Item → List ℕ
-slots_bytes shape i count [] = []
-slots_bytes shape i count (x ∷ xs) = slot_bytes shape i count x ++ slots_bytes shape (suc i) count xs
-
-slots_bytes_lem : (shape : Shape) (i count : ℕ) (xs : List Item) → slots_bytes shape i count xs ≡ items_bytes shape (take (count - i) xs)
-unfolding If◌then◌else◌
-slots_bytes_lem shape i count [] = rw take-nil
-slots_bytes_lem shape i count (x ∷ xs) =
-    elim (dec_le count i) [
-      | yes h ↦
-          let e : count - i ≡ 0 = omega arith in
-          let e' : count - suc i ≡ 0 = omega arith in
-          simp (le-ltb i count h, e) (slots_bytes_lem shape (suc i) count xs ∙ simp e')
-      | no h ↦
-          let k : i < count = omega arith in
-          let e : count - i ≡ suc (count - suc i) = omega arith in
-          simp (lt-ltb i count k, e) (ap (λ (l : List ℕ). item_bytes shape x ++ l) (slots_bytes_lem shape (suc i) count xs))
-    ]
-
--- four slots behind the count are the list
-pub four_slots : (shape : Shape) (count : ℕ) (a b c d : Item)
-    → ((count ∷ []) ++ (slot_bytes shape 0 count a ++ slot_bytes shape 1 count b)) ++ (slot_bytes shape 2 count c ++ slot_bytes shape 3 count d)
-    ≡ list_bytes shape count (a ∷ b ∷ c ∷ d ∷ [])
-four_slots shape count a b c d =
-    let e = slots_bytes_lem shape 0 count (a ∷ b ∷ c ∷ d ∷ []) in
-    simp append_assoc (ap (λ (l : List ℕ). count ∷ l) (simp (append-nil, sub-zero) at e))
-
-pub put_four : {l n : List ℕ} {at e : ℕ} (shape : Shape) (count : ℕ) (xs : List Item) → length xs ≡ 4
-    → Put l n at e
-    (((count ∷ []) ++ (slot_bytes shape 0 count (get_or xs 0 no_item) ++ slot_bytes shape 1 count (get_or xs 1 no_item)))
-    ++ (slot_bytes shape 2 count (get_or xs 2 no_item) ++ slot_bytes shape 3 count (get_or xs 3 no_item)))
-    → Put l n at e (list_bytes shape count xs)
-put_four shape count xs k p =
-    let q = four_slots shape count (get_or xs 0 no_item) (get_or xs 1 no_item) (get_or xs 2 no_item) (get_or xs 3 no_item) in
-    rw (four_of xs k) (rw q at p)
+-- one item more
+pub items_more : (shape : Shape) (xs : List Item) (i : ℕ) (d : Item) → i < length xs
+    → items_bytes shape (take (suc i) xs) ≡ items_bytes shape (take i xs) ++ item_bytes shape (get_or xs i d)
+items_more shape [] i d h = absurd (not-suc-le-zero h)
+items_more shape (x ∷ xs) zero d h = append-nil (item_bytes shape x)
+items_more shape (x ∷ xs) (suc i) d h =
+    ap (λ (l : List ℕ). item_bytes shape x ++ l) (items_more shape xs i d (le_of_suc-le-suc h)) ∙ sym (append_assoc (item_bytes shape x) (items_bytes shape (take i xs)) _)
 
 pub length_items : (shape : Shape) (n : ℕ) (xs : List Item) → n ≤ length xs → length (items_bytes shape (take n xs)) ≡ width shape * n
 length_items shape zero xs h = simp mul-zero
@@ -107,9 +64,24 @@ length_items shape (suc n) (x ∷ xs) h =
     ∙ rw (length_item shape x, length_items shape n xs (le_of_suc-le-suc h))
     (let e : width shape + width shape * n ≡ width shape * suc n = omega (arith, mul-suc (width shape) n) in e)
 
+-- ---- A list, item by item: of the first n of xs, which are ys, i are written
+
+module _ (shape : Shape) (n i : ℕ) (xs ys : List Item) (front : ys ≡ take n xs) (there : i < length ys) where
+  inside : (i < n) × (i < length xs)
+  inside = let h : i < min n (length xs) = rw (front, length-take) at there in (omega arith, omega arith)
+
+  pub item_room : (at e room : ℕ) → at + 1 + width shape * n ≤ room → e ≡ at + length (n ∷ items_bytes shape (take i xs)) → e + width shape ≤ room
+  item_room at e room h k =
+      let m : suc i ≤ n = omega (arith, inside) in
+      omega (arith, length_items shape i xs (omega (arith, inside)), mul-suc (width shape) i, mul-le-mul_left (width shape) m)
+
+  pub item_behind : {l m : List ℕ} {at e : ℕ} (d : Item) → Put l m at e ((n ∷ items_bytes shape (take i xs)) ++ item_bytes shape (get_or ys i d))
+      → Put l m at e (n ∷ items_bytes shape (take (i + 1) xs))
+  item_behind d p = let k = inside in rw (add-one, items_more shape xs i d k.1) (rw (front, get_or-take n xs i d k.0) at p)
+
 -- ---- A frame as a whole
 
-length_fields : (h : Head) → length (field_bytes h) ≡ field_width h
+pub length_fields : (h : Head) → length (field_bytes h) ≡ field_width h
 length_fields Bad = refl
 length_fields (Submit a b c) = refl
 length_fields (Forward a b c d) = refl
@@ -117,15 +89,6 @@ length_fields (ShardAppend a b c) = refl
 length_fields (ExecNotif a b) = refl
 length_fields (Executed a) = refl
 length_fields (Response a b) = refl
-
-pub fields_small : (h : Head) → length (field_bytes h) ≤ 7
-fields_small Bad = omega arith
-fields_small (Submit a b c) = omega arith
-fields_small (Forward a b c d) = omega arith
-fields_small (ShardAppend a b c) = omega arith
-fields_small (ExecNotif a b) = omega arith
-fields_small (Executed a) = omega arith
-fields_small (Response a b) = omega arith
 
 pub length_framed : (len : ℕ) (h : Head) (count : ℕ) (xs : List Item) → count ≤ length xs → length (framed len h count xs) ≡ len_of h count + 2
 length_framed len h count xs k =
@@ -136,91 +99,76 @@ pub bad_bytes : (f : Frame) → is_bad f.head ≡ true → frame_bytes f ≡ []
 unfolding frame_bytes If◌then◌else◌
 bad_bytes f e = simp e
 
-pub frame_bytes_lem : (f : Frame) → is_bad f.head ≡ false → frame_bytes f ≡ framed (len_of f.head f.count) f.head f.count f.items
+pub frame_bytes_lem : (f : Frame) → is_bad f.head ≡ false → frame_bytes f ≡ framed (len_of f.head f.list.count) f.head f.list.count f.list.items
 unfolding frame_bytes If◌then◌else◌
 frame_bytes_lem f e = simp e
 
-pub length_frame : (f : Frame) → is_bad f.head ≡ false → f.count ≤ length f.items → length (frame_bytes f) ≡ len_of f.head f.count + 2
-length_frame f e k = ap length (frame_bytes_lem f e) ∙ length_framed (len_of f.head f.count) f.head f.count f.items k
+pub length_frame : (f : Frame) → is_bad f.head ≡ false → f.list.count ≤ length f.list.items → length (frame_bytes f) ≡ len_of f.head f.list.count + 2
+length_frame f e k = ap length (frame_bytes_lem f e) ∙ length_framed (len_of f.head f.list.count) f.head f.list.count f.list.items k
 
 -- the law for callers: with at most four items and with room, the frame's bytes stand at the front and nothing else changes
-pub writes : (f : Frame) (room : ℕ) → f.count ≤ 4 → length (frame_bytes f) ≤ room → written_of f room ≡ length (frame_bytes f)
+pub writes : (f : Frame) (room : ℕ) → f.list.count ≤ 4 → length (frame_bytes f) ≤ room → written_of f room ≡ length (frame_bytes f)
 unfolding written_of fits If◌then◌else◌
-writes f room k h = simp (le-leb f.count 4 k, le-leb (length (frame_bytes f)) room h)
+writes f room k h = simp (le-leb f.list.count 4 k, le-leb (length (frame_bytes f)) room h)
 
-pub lays : (f : Frame) (out : List ℕ) → f.count ≤ 4 → length (frame_bytes f) ≤ length out → laid_of f out ≡ frame_bytes f ++ drop (length (frame_bytes f)) out
+pub lays : (f : Frame) (out : List ℕ) → f.list.count ≤ 4 → length (frame_bytes f) ≤ length out → laid_of f out ≡ frame_bytes f ++ drop (length (frame_bytes f)) out
 unfolding laid_of fits If◌then◌else◌
-lays f out k h = simp (le-leb f.count 4 k, le-leb (length (frame_bytes f)) (length out) h)
+lays f out k h = simp (le-leb f.list.count 4 k, le-leb (length (frame_bytes f)) (length out) h)
 
 -- what the code leaves where it writes
-pub wrote : (f : Frame) (l m : List ℕ) (k len e : ℕ) (shape : Shape) → k ≡ kind_of f.head → len ≡ len_of f.head f.count → shape ≡ shape_of f.head
-    → is_bad f.head ≡ false → f.count ≤ 4 → length f.items ≡ 4 → len + 2 ≤ length l
-    → Put l m 0 e (((two len ++ header_bytes k) ++ field_bytes f.head) ++ list_bytes shape f.count f.items) → (e ≡ written_of f (length l)) × (m ≡ laid_of f l)
+pub wrote : (f : Frame) (l m : List ℕ) (k len e : ℕ) (shape : Shape) → k ≡ kind_of f.head → len ≡ len_of f.head f.list.count → shape ≡ shape_of f.head
+    → is_bad f.head ≡ false → f.list.count ≤ 4 → length f.list.items ≡ 4 → len + 2 ≤ length l
+    → Put l m 0 e (((two len ++ header_bytes k) ++ field_bytes f.head) ++ list_bytes shape f.list.count f.list.items) → (e ≡ written_of f (length l)) × (m ≡ laid_of f l)
 wrote f l m k len e shape ek en es b c four r p =
-    let q : ((two len ++ header_bytes k) ++ field_bytes f.head) ++ list_bytes shape f.count f.items ≡ frame_bytes f = rw (ek, en, es) (sym (frame_bytes_lem f b)) in
+    let q : ((two len ++ header_bytes k) ++ field_bytes f.head) ++ list_bytes shape f.list.count f.list.items ≡ frame_bytes f = rw (ek, en, es) (sym (frame_bytes_lem f b)) in
     let p' : Put l m 0 e (frame_bytes f) = rw q at p in
-    let n : length (frame_bytes f) ≡ len_of f.head f.count + 2 = length_frame f b (omega arith) in
+    let n : length (frame_bytes f) ≡ len_of f.head f.list.count + 2 = length_frame f b (omega arith) in
     let room : length (frame_bytes f) ≤ length l = omega arith in (
       p'.ended ∙ zero-add (length (frame_bytes f)) ∙ sym (writes f (length l) c room),
       p'.stored ∙ rw zero-add at (sets-eq (frame_bytes f) l 0 (rw zero-add room)) ∙ sym (lays f l c room),
     )
 
--- what it leaves where it writes nothing
-pub wrote_none : (f : Frame) (l : List ℕ) → frame_bytes f ≡ [] → (0 ≡ written_of f (length l)) × (l ≡ laid_of f l)
+-- what it leaves where it writes nothing: the frame has no kind, too many items, or too little room
+abbrev pub Nothing : Frame → List ℕ → Type 0
+Nothing f l = (0 ≡ written_of f (length l)) × (l ≡ laid_of f l)
+
+pub no_kind : (f : Frame) (l : List ℕ) → kind_of f.head ≡ 0 → Nothing f l
 unfolding written_of laid_of If◌then◌else◌
-wrote_none f l e = (rw e (both (fits f (length l)) 0), rw e (both (fits f (length l)) l))
+no_kind f l k = let e = bad_bytes f (bad f.head k) in (rw e (both (fits f (length l)) 0), rw e (both (fits f (length l)) l))
   where
     both : {A : Type 0} (t : Bool) (x : A) → x ≡ (If t then x else x)
     both true x = refl
     both false x = refl
 
--- a frame that is none has kind 0
-kind_bad : (h : Head) → eqb (kind_of h) 0 ≡ is_bad h
-kind_bad Bad = refl
-kind_bad (Submit a b c) = refl
-kind_bad (Forward a b c d) = refl
-kind_bad (ShardAppend a b c) = refl
-kind_bad (ExecNotif a b) = refl
-kind_bad (Executed a) = refl
-kind_bad (Response a b) = refl
+    bad : (h : Head) → kind_of h ≡ 0 → is_bad h ≡ true
+    bad Bad e = refl
+    bad (Submit a b c) e = absurd (omega arith)
+    bad (Forward a b c d) e = absurd (omega arith)
+    bad (ShardAppend a b c) e = absurd (omega arith)
+    bad (ExecNotif a b) e = absurd (omega arith)
+    bad (Executed a) e = absurd (omega arith)
+    bad (Response a b) e = absurd (omega arith)
 
--- the code's test, and what it says either way
-abbrev refuses : ℕ → ℕ → ℕ → ℕ → Bool
-refuses k count out len = eqb k 0 || ltb 4 count || ltb out (len + 2)
+-- a frame with a kind is one
+pub good : (h : Head) → (kind_of h ≡ 0 → ⊥) → is_bad h ≡ false
+good Bad n = absurd (n refl)
+good (Submit a b c) n = refl
+good (Forward a b c d) n = refl
+good (ShardAppend a b c) n = refl
+good (ExecNotif a b) n = refl
+good (Executed a) n = refl
+good (Response a b) n = refl
 
-pub room : (h : Head) (k count out len : ℕ) → k ≡ kind_of h → refuses k count out len ≡ false → (is_bad h ≡ false) × ((count ≤ 4) × (len + 2 ≤ out))
-room h k count out len e t =
-    let a : Bool = eqb k 0 in
-    let b : Bool = ltb 4 count in
-    let c : Bool = ltb out (len + 2) in
-    let u = or_no (a || b) c t in
-    let v = or_no a b u.0 in (
-      sym (kind_bad h) ∙ ap (λ (n : ℕ). eqb n 0) (sym e) ∙ v.0,
-      (ltb-false 4 count v.1, ltb-false out (len + 2) u.1),
-    )
-  where
-    or_no : (a b : Bool) → a || b ≡ false → (a ≡ false) × (b ≡ false)
-    or_no true b e = let z : ◌≡◌ {A = ℕ} 0 1 = cc in absurd (omega arith)
-    or_no false b e = (refl, e)
+unfit : (f : Frame) (l : List ℕ) → fits f (length l) ≡ false → Nothing f l
+unfolding written_of laid_of If◌then◌else◌
+unfit f l e = (simp e, simp e)
 
-pub wrote_refused : (f : Frame) (l : List ℕ) (k len : ℕ) → length f.items ≡ 4 → k ≡ kind_of f.head → len ≡ len_of f.head f.count
-    → refuses k f.count (length l) len ≡ true → (0 ≡ written_of f (length l)) × (l ≡ laid_of f l)
-unfolding written_of laid_of fits If◌then◌else◌
-wrote_refused f l k len four ek en t = go (is_bad f.head) refl
-  where
-    no : fits f (length l) ≡ false → (0 ≡ written_of f (length l)) × (l ≡ laid_of f l)
-    no e = (simp e, simp e)
+pub too_many : (f : Frame) (l : List ℕ) → 4 < f.list.count → Nothing f l
+unfolding fits
+too_many f l h = unfit f l (simp (lt-leb f.list.count 4 h))
 
-    unfit : is_bad f.head ≡ false → (a : Bool) → ltb 4 f.count ≡ a → a || ltb (length l) (len + 2) ≡ true → fits f (length l) ≡ false
-    unfit b true e u = simp (lt-leb f.count 4 (ltb-true 4 f.count e))
-    unfit b false e u =
-        let c : f.count ≤ 4 = ltb-false 4 f.count e in
-        let n = length_frame f b (omega arith) in
-        let w = ltb-true (length l) (len + 2) u in
-        simp (le-leb f.count 4 c, lt-leb (length (frame_bytes f)) (length l) (omega arith))
-
-    go : (b : Bool) → is_bad f.head ≡ b → (0 ≡ written_of f (length l)) × (l ≡ laid_of f l)
-    go true e = wrote_none f l (bad_bytes f e)
-    go false e =
-        let z : eqb k 0 ≡ false = rw ek (kind_bad f.head ∙ e) in
-        no (unfit e (ltb 4 f.count) refl (rw z at t))
+pub no_room : (f : Frame) (l : List ℕ) → is_bad f.head ≡ false → f.list.count ≤ 4 → length f.list.items ≡ 4 → length l < len_of f.head f.list.count + 2 → Nothing f l
+unfolding fits
+no_room f l b c four h =
+    let n = length_frame f b (omega arith) in
+    unfit f l (simp (le-leb f.list.count 4 c, lt-leb (length (frame_bytes f)) (length l) (omega arith)))

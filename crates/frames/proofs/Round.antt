@@ -3,6 +3,7 @@
 use mathlib.Core.Path.{◌≡◌, refl, sym, ap, ◌∙◌}
 use mathlib.Core.Bool.{Bool, false, not, ◌&&◌}
 use mathlib.Core.List.{List, [], ◌∷◌, ◌++◌, append-nil}
+use Rattle.std.specs.Prelude.{Option, Some, None, IfSome}
 use Prim.Native.Nat.{ℕ, zero, suc, ◌+◌, ◌*◌, ◌<◌, ◌≤◌}
 use native.Mathlib.Nat.{zero-add}
 use native.Mathlib.Omega.{arith}
@@ -20,7 +21,7 @@ use Rattle.frames.specs.declared.Head.{Head}
 use Rattle.frames.specs.declared.Head.TheVariants.{Bad, Submit, Forward, ShardAppend, ExecNotif, Executed, Response}
 use Rattle.frames.specs.declared.Frame.{Frame}
 use Rattle.frames.specs.declared.Front.{Front}
-use Rattle.frames.specs.Frames.{kind_of, field_bytes, field_width, shape_of, is_bad, width, items_bytes, list_bytes, framed, frame_bytes, len_of, ok_item, ok_from, ok_items, ok_window, ok_head, valid, bad_frame, slots, listed, read_submit, read_forward, read_shard_append, read_exec_notif, read_executed, read_response, head_of, body_at, candidate_of, no_front, taken, accept, read_front, read_frame}
+use Rattle.frames.specs.Frames.{kind_of, field_bytes, field_width, shape_of, is_bad, width, items_bytes, list_bytes, framed, frame_bytes, len_of, ok_item, ok_from, ok_items, ok_window, ok_head, valid, bad_frame, slots, listed, read_submit, read_forward, read_shard_append, read_exec_notif, read_executed, read_response, head_of, body_at, candidate_of, taken, accept, read_front, alone, read_frame}
 use Rattle.frames.specs.View.{CanonFrom, CanonFrame, Bytes}
 use Rattle.frames.proofs.Puts.{frame_bytes_lem, length_frame}
 use Rattle.frames.proofs.Lists.{gets, gets_append, gets_part, gets_drop, two_at_lem, items_bytes_lem, slots_canon, items_back}
@@ -33,13 +34,13 @@ enough p zero xs t = omega arith
 enough p (suc n) [] t = absurd t
 enough p (suc n) (x ∷ xs) t = let h = enough (suc x.place) n xs (and_r (leb p x.place && ok_item x) (ok_from (suc x.place) n xs) t) in omega arith
 
-pub head_of_lem : (f : Frame) → T (valid f) → T (ok_head f.head f.count)
+pub head_of_lem : (f : Frame) → T (valid f) → T (ok_head f.head f.list.count)
 unfolding valid
-head_of_lem f v = and_l (ok_head f.head f.count) (ok_items f.count f.items) v
+head_of_lem f v = and_l (ok_head f.head f.list.count) (ok_items f.list.count f.list.items) v
 
-pub items_of_lem : (f : Frame) → T (valid f) → T (ok_items f.count f.items)
+pub items_of_lem : (f : Frame) → T (valid f) → T (ok_items f.list.count f.list.items)
 unfolding valid
-items_of_lem f v = and_r (ok_head f.head f.count) (ok_items f.count f.items) v
+items_of_lem f v = and_r (ok_head f.head f.list.count) (ok_items f.list.count f.list.items) v
 
 good_head : (h : Head) (n : ℕ) → T (ok_head h n) → is_bad h ≡ false
 good_head Bad n t = absurd t
@@ -52,35 +53,39 @@ good_head (Response a b) n t = refl
 
 -- whatever the bytes, what the reader gives has four slots and at most four items
 pub record Few (f : Frame) : Type 0 where
-  pub count : f.count ≤ 4
-  pub items : length f.items ≡ 4
+  pub count : f.list.count ≤ 4
+  pub items : length f.list.items ≡ 4
 
 bad_few : Few bad_frame
 unfolding bad_frame
 bad_few = record { count = omega arith; items = refl }
 
-pub front_few : (s : List ℕ) → Few (read_front s).frame
-unfolding read_front accept no_front candidate_of listed
+pub front_few : (s : List ℕ) → IfSome (read_front s) (λ r. Few r.frame)
+unfolding read_front accept candidate_of listed
 front_few s =
     let f = candidate_of s in
-    let n : ℕ = len_of f.head f.count in
-    by (λ (r : Front). Few r.frame) (taken f s)
+    let n : ℕ = len_of f.head f.list.count in
+    by (λ (o : Option Front). IfSome o (λ r. Few r.frame)) (taken f s)
     (λ t.
     let v = and_l (valid f) (eqb (two_at s 0) n) (and_l (valid f && eqb (two_at s 0) n) (leb (n + 2) (length s)) t) in
-    record { count = enough 0 f.count f.items (items_of_lem f v); items = refl }) (λ t. bad_few)
+    record { count = enough 0 f.list.count f.list.items (items_of_lem f v); items = refl }) (λ t. tt)
 
 pub frame_few : (s : List ℕ) → Few (read_frame s)
 unfolding read_frame
-frame_few s = by Few (eqb (read_front s).end (length s)) (λ t. front_few s) (λ t. bad_few)
+frame_few s = go (read_front s) (front_few s)
+  where
+    go : (o : Option Front) → IfSome o (λ r. Few r.frame) → Few (alone (length s) o)
+    go None h = bad_few
+    go (Some r) h = by Few (eqb r.end (length s)) (λ t. h) (λ t. bad_few)
 
 -- ---- What is written reads back
 
-accepts_it : (f : Frame) (s : List ℕ) → T (valid f) → two_at s 0 ≡ len_of f.head f.count → len_of f.head f.count + 2 ≤ length s
-    → accept f s ≡ record { frame = f; end = len_of f.head f.count + 2 }
+accepts_it : (f : Frame) (s : List ℕ) → T (valid f) → two_at s 0 ≡ len_of f.head f.list.count → len_of f.head f.list.count + 2 ≤ length s
+    → accept f s ≡ Some (record { frame = f; end = len_of f.head f.list.count + 2 })
 unfolding accept
 accepts_it f s v e h =
-    let n : ℕ = len_of f.head f.count in
-    if_yes (taken f s) _ no_front
+    let n : ℕ = len_of f.head f.list.count in
+    if_yes (taken f s) _ None
     (and (valid f && eqb (two_at s 0) n) (leb (n + 2) (length s)) (and (valid f) (eqb (two_at s 0) n) v (rw e (eqb_refl n))) (le→leb (n + 2) (length s) h))
 
 -- the length of at most four items fits its field
@@ -105,7 +110,7 @@ small x m e h = let k : x ≤ m = leb→le x m e in omega arith
 
 module _ (count : ℕ) (xs : List Item) (t : List ℕ) (four : length xs ≡ 4) where
   frame : Head → Frame
-  frame h = record { head = h; count = count; items = xs }
+  frame h = record { head = h; list = record { count = count; items = xs } }
 
   bytes : Head → List ℕ
   bytes h = framed (len_of h count) h count xs ++ t
@@ -119,49 +124,49 @@ module _ (count : ℕ) (xs : List Item) (t : List ℕ) (four : length xs ≡ 4) 
   spelled Bad v c = absurd v
   spelled (Submit client number ack) v c =
       let w = window number ack (and_r (leb 1 count && leb client 15) (ok_window number ack) v) in
-      λ j. record { head = Submit client (two_back number w.0 j) (two_back ack w.1 j); count = count; items = list_back Operation c j }
+      λ j. record { head = Submit client (two_back number w.0 j) (two_back ack w.1 j); list = record { count = count; items = list_back Operation c j } }
   spelled (Forward log client number ack) v c =
       let a : Bool = leb 1 count && leb log 255 in
       let w = window number ack (and_r (a && leb client 15) (ok_window number ack) v) in
       let u = and_l a (leb client 15) (and_l (a && leb client 15) (ok_window number ack) v) in
       let g = small log 255 (and_r (leb 1 count) (leb log 255) u) (omega arith) in
-      λ j. record { head = Forward (two_back log g j) client (two_back number w.0 j) (two_back ack w.1 j); count = count; items = list_back Operation c j }
+      λ j. record { head = Forward (two_back log g j) client (two_back number w.0 j) (two_back ack w.1 j); list = record { count = count; items = list_back Operation c j } }
   spelled (ShardAppend shard log sn) v c =
       let a : Bool = leb 1 count && within 1 8 shard in
       let u = and_l (a && leb log 255) (within 1 256 sn) v in
       let g = small log 255 (and_r a (leb log 255) u) (omega arith) in
       let k = small sn 256 (and_r (leb 1 sn) (leb sn 256) (and_r (a && leb log 255) (within 1 256 sn) v)) (omega arith) in
-      λ j. record { head = ShardAppend shard (two_back log g j) (two_back sn k j); count = count; items = list_back Placed c j }
+      λ j. record { head = ShardAppend shard (two_back log g j) (two_back sn k j); list = record { count = count; items = list_back Placed c j } }
   spelled (ExecNotif shard log) v c =
       let g = small log 255 (and_r (within 1 8 shard) (leb log 255) v) (omega arith) in
-      λ j. record { head = ExecNotif shard (two_back log g j); count = count; items = list_back Read c j }
-  spelled (Executed log) v c = let g = small log 255 v (omega arith) in λ j. record { head = Executed (two_back log g j); count = count; items = list_back Read c j }
+      λ j. record { head = ExecNotif shard (two_back log g j); list = record { count = count; items = list_back Read c j } }
+  spelled (Executed log) v c = let g = small log 255 v (omega arith) in λ j. record { head = Executed (two_back log g j); list = record { count = count; items = list_back Read c j } }
   spelled (Response client number) v c =
       let g = small number 65534 (and_r (leb client 15) (leb number 65534) v) (omega arith) in
-      λ j. record { head = Response client (two_back number g j); count = count; items = list_back Read c j }
+      λ j. record { head = Response client (two_back number g j); list = record { count = count; items = list_back Read c j } }
 
 -- a frame that obeys the rules is read from its bytes, whatever follows them, and its end is found
-pub front_back : (f : Frame) (t : List ℕ) → T (valid f) → CanonFrame f → read_front (frame_bytes f ++ t) ≡ record { frame = f; end = length (frame_bytes f) }
+pub front_back : (f : Frame) (t : List ℕ) → T (valid f) → CanonFrame f → read_front (frame_bytes f ++ t) ≡ Some (record { frame = f; end = length (frame_bytes f) })
 unfolding read_front bytes frame
 front_back f t v (four, c) =
     let h = head_of_lem f v in
-    let g = good_head f.head f.count h in
-    let k = enough 0 f.count f.items (items_of_lem f v) in
-    let s : List ℕ = framed (len_of f.head f.count) f.head f.count f.items ++ t in
+    let g = good_head f.head f.list.count h in
+    let k = enough 0 f.list.count f.list.items (items_of_lem f v) in
+    let s : List ℕ = framed (len_of f.head f.list.count) f.head f.list.count f.list.items ++ t in
     let e = frame_bytes_lem f g in
     let n = length_frame f g k in
-    let l : len_of f.head f.count + 2 ≤ length s
-    = omega (arith, ap length e, length-append (framed (len_of f.head f.count) f.head f.count f.items) t) in
+    let l : len_of f.head f.list.count + 2 ≤ length s
+    = omega (arith, ap length e, length-append (framed (len_of f.head f.list.count) f.head f.list.count f.list.items) t) in
     ap (λ (b : List ℕ). read_front (b ++ t)) e
-    ∙ ap (λ (g : Frame). accept g s) (spelled f.count f.items t four f.head h c)
-    ∙ accepts_it f s v (two_back (len_of f.head f.count) (len_small f.head f.count (omega arith))) l
-    ∙ λ i. record { frame = f; end = sym n i }
+    ∙ ap (λ (g : Frame). accept g s) (spelled f.list.count f.list.items t four f.head h c)
+    ∙ accepts_it f s v (two_back (len_of f.head f.list.count) (len_small f.head f.list.count (omega arith))) l
+    ∙ λ i. Some (record { frame = f; end = sym n i })
 
 -- for every frame that the rules allow, reading what was written gives that frame
 pub frame_back : (f : Frame) → T (valid f) → CanonFrame f → read_frame (frame_bytes f) ≡ f
 unfolding read_frame
 frame_back f v c =
-    let e : read_front (frame_bytes f) ≡ record { frame = f; end = length (frame_bytes f) } = rw append-nil at (front_back f [] v c) in
+    let e : read_front (frame_bytes f) ≡ Some (record { frame = f; end = length (frame_bytes f) }) = rw append-nil at (front_back f [] v c) in
     rw e (if_yes (eqb (length (frame_bytes f)) (length (frame_bytes f))) f bad_frame (eqb_refl (length (frame_bytes f))))
 
 -- ---- What is read is written as the same bytes
@@ -174,9 +179,9 @@ pub record Begins (s : List ℕ) (r : Front) : Type 0 where
   pub inside : r.end ≤ length s
 
 -- fields and list of a frame that was read from a body
-body_bytes : (body : List ℕ) → Bytes body → (h : Head) → field_bytes h ≡ gets 0 (field_width h) 0 body → (listed h body).count ≤ 4
-    → field_bytes h ++ list_bytes (shape_of h) (listed h body).count (listed h body).items
-    ≡ gets 0 (field_width h + (1 + width (shape_of h) * (listed h body).count)) 0 body
+body_bytes : (body : List ℕ) → Bytes body → (h : Head) → field_bytes h ≡ gets 0 (field_width h) 0 body → (listed h body).list.count ≤ 4
+    → field_bytes h ++ list_bytes (shape_of h) (listed h body).list.count (listed h body).list.items
+    ≡ gets 0 (field_width h + (1 + width (shape_of h) * (listed h body).list.count)) 0 body
 unfolding listed
 body_bytes body b h e k =
     let at : ℕ = field_width h in
@@ -200,23 +205,23 @@ module _ (s : List ℕ) (b : Bytes s) where
   bytes_from n i = rw get_or-drop (b (n + i))
 
   abbrev Accepted : Frame → Type 0
-  Accepted f = T (taken f s) → Begins s (record { frame = f; end = len_of f.head f.count + 2 })
+  Accepted f = T (taken f s) → Begins s (record { frame = f; end = len_of f.head f.list.count + 2 })
 
   -- one frame, whatever its kind
   accepted : (h : Head) → is_bad h ≡ false → two_at s 2 ≡ kind_of h → field_bytes h ≡ gets 0 (field_width h) 0 (drop body_at s) → Accepted (listed h (drop body_at s))
   unfolding listed
   accepted h g k e t =
       let f : Frame = listed h (drop body_at s) in
-      let n : ℕ = len_of h f.count in
+      let n : ℕ = len_of h f.list.count in
       let u = and_l (valid f && eqb (two_at s 0) n) (leb (n + 2) (length s)) t in
       let v = and_l (valid f) (eqb (two_at s 0) n) u in
-      let c : f.count ≤ 4 = enough 0 f.count f.items (items_of_lem f v) in
-      let m : ℕ = field_width h + (1 + width (shape_of h) * f.count) in
+      let c : f.list.count ≤ 4 = enough 0 f.list.count f.list.items (items_of_lem f v) in
+      let m : ℕ = field_width h + (1 + width (shape_of h) * f.list.count) in
       let i : n + 2 ≤ length s = leb→le (n + 2) (length s) (and_r (valid f && eqb (two_at s 0) n) (leb (n + 2) (length s)) t) in
       let p : two n ≡ gets 0 2 0 s = ap two (sym (eqb→eq (two_at s 0) n (and_r (valid f) (eqb (two_at s 0) n) u))) ∙ two_at_lem s b 0 in
       let q : two (kind_of h) ≡ gets 0 2 2 s = ap two (sym k) ∙ two_at_lem s b 2 in
-      let r : field_bytes h ++ list_bytes (shape_of h) f.count f.items ≡ gets 0 m body_at s = body_bytes (drop body_at s) (bytes_from body_at) h e c ∙ gets_drop 0 m body_at 0 s in
-      let x : framed n h f.count f.items ≡ gets 0 2 0 s ++ (gets 0 2 2 s ++ gets 0 m body_at s) = λ j. p j ++ (q j ++ r j) in
+      let r : field_bytes h ++ list_bytes (shape_of h) f.list.count f.list.items ≡ gets 0 m body_at s = body_bytes (drop body_at s) (bytes_from body_at) h e c ∙ gets_drop 0 m body_at 0 s in
+      let x : framed n h f.list.count f.list.items ≡ gets 0 2 0 s ++ (gets 0 2 2 s ++ gets 0 m body_at s) = λ j. p j ++ (q j ++ r j) in
       let y : 2 + (2 + m) ≡ n + 2 = omega arith in
       record {
         right = v;
@@ -249,7 +254,7 @@ module _ (s : List ℕ) (b : Bytes s) where
       bad
 
   -- nothing is read, or a frame with which the bytes begin
-  pub fronts : (P : Front → Type 0) → P no_front → ((r : Front) → Begins s r → P r) → P (read_front s)
+  pub fronts : (P : Option Front → Type 0) → P None → ((r : Front) → Begins s r → P (Some r)) → P (read_front s)
   unfolding read_front accept candidate_of
   fronts P none some = by P (taken (candidate_of s) s) (λ t. some _ (by_kind (two_at s 2) refl t)) (λ t. none)
 
@@ -262,7 +267,7 @@ pub record Spells (s : List ℕ) (f : Frame) : Type 0 where
 pub reads : (s : List ℕ) → Bytes s → (P : Frame → Type 0) → P bad_frame → ((f : Frame) → Spells s f → P f) → P (read_frame s)
 unfolding read_frame
 reads s b P none some =
-    fronts s b (λ (r : Front). P (If eqb r.end (length s) then r.frame else bad_frame)) (by P _ (λ t. unfold no_front in none) (λ t. none))
+    fronts s b (λ (o : Option Front). P (alone (length s) o)) none
     (λ r g.
     by P (eqb r.end (length s))
     (λ t. some r.frame (record { right = g.right; canon = g.canon; bytes = g.bytes ∙ whole r.end (eqb→eq r.end (length s) t) })) (λ t. none))
@@ -277,7 +282,7 @@ bytes_back s b = reads s b (λ (f : Frame). T (not (is_bad f.head)) → frame_by
 -- both together: bytes are read as a frame exactly where they are its bytes
 pub frame_exactly : (s : List ℕ) (f : Frame) → Bytes s → T (valid f) → CanonFrame f → (read_frame s ≡ f → frame_bytes f ≡ s) × (frame_bytes f ≡ s → read_frame s ≡ f)
 frame_exactly s f b v c = (
-  (λ e. rw e at (bytes_back s b (rw e (good f.head f.count (head_of_lem f v))))),
+  (λ e. rw e at (bytes_back s b (rw e (good f.head f.list.count (head_of_lem f v))))),
   (λ e. rw e at (frame_back f v c)),
 )
   where

@@ -1,10 +1,11 @@
 -- The frames as records: the bytes of a record, the tests that a record passes, and the record that some bytes are read as.
 -- Numbers and their bytes are the rules' own (two, four, byte_at, two_at, four_at). Assumes nothing.
-use Rattle.std.specs.Prelude.{Bool, true, false, ◌&&◌, ◌||◌, List, [], ◌∷◌, ◌++◌, ℕ, zero, suc, ◌+◌, ◌*◌, ◌-◌, length, take, drop, ◌≡◌}
+use Rattle.std.specs.Prelude.{Bool, true, false, ◌&&◌, ◌||◌, Option, None, Some, List, [], ◌∷◌, ◌++◌, ℕ, zero, suc, ◌+◌, ◌*◌, ◌-◌, length, take, drop, ◌≡◌}
 use Rattle.std.proofs.lemmas.List.Edits.{sets}
 use Rattle.rules.specs.Lists.{If◌then◌else◌, ◌<?◌, ◌≤?◌, ◌=?◌, within}
 use Rattle.rules.specs.Frames.{ok_client, ok_number, ok_ind, two, four, byte_at, two_at, four_at, header_width, back_to_back}
 use Rattle.frames.specs.declared.Item.{Item}
+use Rattle.frames.specs.declared.Items.{Items}
 use Rattle.frames.specs.declared.Shape.{Shape}
 use Rattle.frames.specs.declared.Shape.TheVariants.{Operation, Placed, Read}
 use Rattle.frames.specs.declared.Head.{Head}
@@ -78,10 +79,6 @@ abbrev pub items_bytes : Shape → List Item → List ℕ
 items_bytes shape [] = []
 items_bytes shape (x ∷ xs) = item_bytes shape x ++ items_bytes shape xs
 
--- item i of count, or nothing
-abbrev pub slot_bytes : Shape → ℕ → ℕ → Item → List ℕ
-slot_bytes shape i count x = If i <? count then item_bytes shape x else []
-
 -- "Each list begins with a one-byte count"
 abbrev pub list_bytes : Shape → ℕ → List Item → List ℕ
 list_bytes shape count items = count ∷ items_bytes shape (take count items)
@@ -99,7 +96,7 @@ abbrev pub framed : ℕ → Head → ℕ → List Item → List ℕ
 framed len head count items = two len ++ (header_bytes (kind_of head) ++ (field_bytes head ++ list_bytes (shape_of head) count items))
 
 unfoldable pub frame_bytes : Frame → List ℕ
-frame_bytes f = If is_bad f.head then [] else framed (len_of f.head f.count) f.head f.count f.items
+frame_bytes f = If is_bad f.head then [] else framed (len_of f.head f.list.count) f.head f.list.count f.list.items
 
 -- ---- The tests of "Sizes" and "Frames"
 
@@ -131,7 +128,7 @@ ok_head (Executed log-number) count = ok_ind log-number
 ok_head (Response client number) count = ok_client client && ok_number number
 
 unfoldable pub valid : Frame → Bool
-valid f = ok_head f.head f.count && ok_items f.count f.items
+valid f = ok_head f.head f.list.count && ok_items f.list.count f.list.items
 
 -- ---- Bytes as a record
 
@@ -140,7 +137,7 @@ no_item = record { place = 0; code = 0; key = 0; value = 0 }
 
 -- refusal 1
 unfoldable pub bad_frame : Frame
-bad_frame = record { head = Bad; count = 0; items = no_item ∷ no_item ∷ no_item ∷ no_item ∷ [] }
+bad_frame = record { head = Bad; list = record { count = 0; items = no_item ∷ no_item ∷ no_item ∷ no_item ∷ [] } }
 
 -- item i of a list, its bytes from `at` on; an operation's place is its index, a read has no key
 abbrev pub item_at : Shape → ℕ → List ℕ → ℕ → Item
@@ -187,14 +184,13 @@ head_of kind body =
     If kind =? 6 then read_response body else
     Bad
 
+-- a list: its count at `at`, its items behind it
+abbrev pub list_at : Shape → List ℕ → ℕ → Items
+list_at shape s at = record { count = byte_at s at; items = slots shape 0 4 (byte_at s at) s (at + 1) }
+
 -- fields and the list behind them
 unfoldable pub listed : Head → List ℕ → Frame
-listed head body =
-    record {
-      head = head;
-      count = byte_at body (field_width head);
-      items = slots (shape_of head) 0 4 (byte_at body (field_width head)) body (field_width head + 1);
-    }
+listed head body = record { head = head; list = list_at (shape_of head) body (field_width head) }
 
 -- the body stands behind length and header
 abbrev pub body_at : ℕ
@@ -204,24 +200,25 @@ body_at = 2 + header_width
 unfoldable pub candidate_of : List ℕ → Frame
 candidate_of s = listed (head_of (two_at s 2) (drop body_at s)) (drop body_at s)
 
--- nothing was read
-unfoldable pub no_front : Front
-no_front = record { frame = bad_frame; end = 0 }
-
 -- the frame is right, the length field is its own, and its bytes are there
 abbrev pub taken : Frame → List ℕ → Bool
-taken f s = valid f && two_at s 0 =? len_of f.head f.count && len_of f.head f.count + 2 ≤? length s
+taken f s = valid f && two_at s 0 =? len_of f.head f.list.count && len_of f.head f.list.count + 2 ≤? length s
 
-unfoldable pub accept : Frame → List ℕ → Front
-accept f s = If taken f s then record { frame = f; end = len_of f.head f.count + 2 } else no_front
+unfoldable pub accept : Frame → List ℕ → Option Front
+accept f s = If taken f s then Some (record { frame = f; end = len_of f.head f.list.count + 2 }) else None
 
 -- the frame with which some bytes begin, and where it ends
-unfoldable pub read_front : List ℕ → Front
+unfoldable pub read_front : List ℕ → Option Front
 read_front s = accept (candidate_of s) s
+
+-- the frame of a front that ends where n bytes do
+abbrev pub alone : ℕ → Option Front → Frame
+alone n None = bad_frame
+alone n (Some r) = If r.end =? n then r.frame else bad_frame
 
 -- "Nothing may follow a frame"
 unfoldable pub read_frame : List ℕ → Frame
-read_frame s = If (read_front s).end =? length s then (read_front s).frame else bad_frame
+read_frame s = alone (length s) (read_front s)
 
 -- ---- A record laid into an out area
 
@@ -232,7 +229,7 @@ pub record Put (before after : List ℕ) (at end : ℕ) (bytes : List ℕ) : Typ
 
 -- a frame is written if it has at most four items and its bytes have room
 unfoldable pub fits : Frame → ℕ → Bool
-fits f room = f.count ≤? 4 && length (frame_bytes f) ≤? room
+fits f room = f.list.count ≤? 4 && length (frame_bytes f) ≤? room
 
 -- how many bytes are written
 unfoldable pub written_of : Frame → ℕ → ℕ

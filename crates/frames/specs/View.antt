@@ -73,7 +73,7 @@ meant (Executed log-number) count items = some (executed log-number (reads_of co
 meant (Response client number) count items = some (response client number (reads_of count items))
 
 unfoldable pub meaning : Frame → Option F.Frame
-meaning f = meant f.head f.count f.items
+meaning f = meant f.head f.list.count f.list.items
 
 -- the bytes of what a record means; of the refusal none
 abbrev pub encoded : Option F.Frame → List ℕ
@@ -101,7 +101,7 @@ abbrev pub Canon : Shape → ℕ → List Item → Type 0
 Canon shape count items = CanonFrom shape 0 count items
 
 abbrev pub CanonFrame : Frame → Type 0
-CanonFrame f = (length f.items ≡ 4) × Canon (shape_of f.head) f.count f.items
+CanonFrame f = (length f.list.items ≡ 4) × Canon (shape_of f.head) f.list.count f.list.items
 
 -- ---- The record of a frame of the rules
 
@@ -131,13 +131,13 @@ filled (suc k) (x ∷ xs) = x ∷ filled k xs
 
 abbrev pub record_of : F.Frame → Frame
 record_of (submit w ack) =
-    record { head = Submit w.client w.number ack; count = length w.operations; items = filled 4 (operation_items 0 w.operations) }
+    record { head = Submit w.client w.number ack; list = record { count = length w.operations; items = filled 4 (operation_items 0 w.operations) } }
 record_of (forward ind w ack) =
-    record { head = Forward ind w.client w.number ack; count = length w.operations; items = filled 4 (operation_items 0 w.operations) }
-record_of (shard_append j ind sn xs) = record { head = ShardAppend j ind sn; count = length xs; items = filled 4 (map placed_item xs) }
-record_of (exec_notif j ind rs) = record { head = ExecNotif j ind; count = length rs; items = filled 4 (map read_item rs) }
-record_of (executed ind rs) = record { head = Executed ind; count = length rs; items = filled 4 (map read_item rs) }
-record_of (response client number rs) = record { head = Response client number; count = length rs; items = filled 4 (map read_item rs) }
+    record { head = Forward ind w.client w.number ack; list = record { count = length w.operations; items = filled 4 (operation_items 0 w.operations) } }
+record_of (shard_append j ind sn xs) = record { head = ShardAppend j ind sn; list = record { count = length xs; items = filled 4 (map placed_item xs) } }
+record_of (exec_notif j ind rs) = record { head = ExecNotif j ind; list = record { count = length rs; items = filled 4 (map read_item rs) } }
+record_of (executed ind rs) = record { head = Executed ind; list = record { count = length rs; items = filled 4 (map read_item rs) } }
+record_of (response client number rs) = record { head = Response client number; list = record { count = length rs; items = filled 4 (map read_item rs) } }
 
 -- each element of a list is a byte
 abbrev pub Bytes : List ℕ → Type 0

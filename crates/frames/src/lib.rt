@@ -1,9 +1,10 @@
 // Frames of the board chain, read from a slice and written into an out area. Nothing is allocated, and each byte is looked at a bounded number of times.
 #![tactic(auto)]
 
-ghost use Rattle.std.specs.Prelude.{◌≡◌, false, [], ◌∷◌, ◌++◌, ◌+◌, ◌*◌, ◌<◌, ◌≤◌, length, set};
-ghost use Rattle.rules.specs.Frames.{two, four, byte_at, two_at, four_at, decode};
-ghost use Rattle.frames.specs.Frames.{kind_of, field_bytes, field_width, shape_of, width, item_bytes, slot_bytes, list_bytes, header_bytes, len_of, ok_item, ok_items, ok_window, ok_head, valid, no_item, bad_frame, item_at, slot_at, slots, read_submit, read_forward, read_shard_append, read_exec_notif, read_executed, read_response, head_of, listed, body_at, candidate_of, no_front, accept, read_front, read_frame, Put, written_of, laid_of, end_of, laid_behind};
+ghost use Rattle.std.specs.Prelude.{◌≡◌, ◌+◌, ◌*◌, ◌<◌, ◌≤◌, length};
+ghost use Rattle.rules.specs.Frames.{two, byte_at, two_at, four_at, decode};
+ghost use Rattle.frames.specs.Frames.{kind_of, field_bytes, field_width, shape_of, width, item_bytes, list_bytes, len_of, ok_item, ok_items, ok_window, ok_head, valid, no_item, bad_frame, item_at, list_at, head_of, body_at, candidate_of, accept, read_front, read_frame, Put, written_of, laid_of, end_of, laid_behind};
+ghost use Rattle.frames.specs.Items.{in_list, empty_list, pushed_on};
 ghost use Rattle.frames.specs.View.{answer_of, answer_to, meaning};
 
 // The place of an entry in the log: "log number 0..255", two bytes in a frame.
@@ -12,7 +13,7 @@ pub type LogNumber = u16;
 // One item of a list. An operation: code 0 get or 1 put, its place is its index. A placed operation: the same with its own place.
 // A read: code is `present`, 0 or 1, and the key is 0.
 #[repr(C)]
-#[derive(Clone, Copy)]
+#[derive(Clone, Copy, Debug, PartialEq, Eq, Default)]
 pub struct Item {
     pub place: u8,
     pub code: u8,
@@ -20,8 +21,43 @@ pub struct Item {
     pub value: u32,
 }
 
+// Up to four items in their order: the first count. In each list that is read or made here the slots behind them are zero.
+#[derive(Clone, Copy, Debug, PartialEq, Eq, Default)]
+pub struct Items {
+    pub count: u8,
+    pub items: [Item; 4],
+}
+
+impl Items {
+    // The list without items.
+    pub fn new() -> Items
+        ensures { result ≡ empty_list }
+    {
+        Items::default()
+    }
+
+    // The items that the list has, and none of the slots behind them.
+    pub fn as_slice(&self) -> &[Item]
+        ensures { result.now ≡ in_list self.now }
+    {
+        let end = usize::from(self.count).min(4);
+        &self.items[..end]
+    }
+
+    // One item more at the end; a full list stays as it is.
+    pub fn push(&mut self, x: Item)
+        ensures { self.new ≡ pushed_on self.old x }
+    {
+        let at = usize::from(self.count);
+        if at < 4 {
+            self.items[at] = x;
+            self.count += 1;
+        }
+    }
+}
+
 // How an item lies in a frame.
-#[derive(Clone, Copy)]
+#[derive(Clone, Copy, Debug, PartialEq, Eq)]
 pub enum Shape {
     Operation,
     Placed,
@@ -29,7 +65,7 @@ pub enum Shape {
 }
 
 // The fields of each kind; Bad is refusal 1.
-#[derive(Clone, Copy)]
+#[derive(Clone, Copy, Debug, PartialEq, Eq)]
 pub enum Head {
     Bad,
     Submit {
@@ -61,16 +97,15 @@ pub enum Head {
     },
 }
 
-// A frame: its fields and its list, the slots past the count zero.
-#[derive(Clone, Copy)]
+// A frame: its fields and its list.
+#[derive(Clone, Copy, Debug, PartialEq, Eq)]
 pub struct Frame {
     pub head: Head,
-    pub count: u8,
-    pub items: [Item; 4],
+    pub list: Items,
 }
 
-// The frame with which a slice begins, and where it ends; 0 if there is none.
-#[derive(Clone, Copy)]
+// The frame with which a slice begins, and where it ends.
+#[derive(Clone, Copy, Debug, PartialEq, Eq)]
 pub struct Front {
     pub frame: Frame,
     pub end: usize,
@@ -102,143 +137,75 @@ const LAST_PLACE: u8 = 3;
 fn byte(s: &[u8], i: usize) -> u8
     ensures { result ≡ byte_at s.now i }
 {
-    if i < s.len() { s[i] } else { 0 }
-}
-
-fn cat2(low: u8, high: u8) -> u16
-    ensures { result ≡ low + 256 * high }
-{
-    (low as u16) + 256 * (high as u16)
-}
-
-fn cat4(low: u16, high: u16) -> u32
-    ensures { result ≡ low + 65536 * high }
-{
-    (low as u32) + 65536 * (high as u32)
+    s.get(i).copied().unwrap_or(0)
 }
 
 fn u16_at(s: &[u8], i: usize) -> u16
     requires { i < 4096 }
     ensures { result ≡ two_at s.now i }
 {
-    cat2(byte(s, i), byte(s, i + 1))
+    u16::from_le_bytes([byte(s, i), byte(s, i + 1)])
 }
 
 fn u32_at(s: &[u8], i: usize) -> u32
     requires { i < 4000 }
     ensures { result ≡ four_at s.now i }
 {
-    cat4(u16_at(s, i), u16_at(s, i + 2))
+    u32::from_le_bytes([byte(s, i), byte(s, i + 1), byte(s, i + 2), byte(s, i + 3)])
 }
 
 // ---- The table of kinds
 
-fn kind_of(head: Head) -> u16
-    ensures { result ≡ kind_of head }
-{
-    match head {
-        Head::Bad => 0,
-        Head::Submit {
-            client: _,
-            number: _,
-            ack: _,
-        } => 1,
-        Head::Forward {
-            log_number: _,
-            client: _,
-            number: _,
-            ack: _,
-        } => 2,
-        Head::ShardAppend {
-            shard: _,
-            log_number: _,
-            sn: _,
-        } => 3,
-        Head::ExecNotif {
-            shard: _,
-            log_number: _,
-        } => 4,
-        Head::Executed { log_number: _ } => 5,
-        Head::Response {
-            client: _,
-            number: _,
-        } => 6,
+impl Head {
+    // The number by which a frame names its kind; 0 is none.
+    fn kind(self) -> u16
+        ensures { result ≡ kind_of self }
+    {
+        match self {
+            Head::Bad => 0,
+            Head::Submit { .. } => 1,
+            Head::Forward { .. } => 2,
+            Head::ShardAppend { .. } => 3,
+            Head::ExecNotif { .. } => 4,
+            Head::Executed { .. } => 5,
+            Head::Response { .. } => 6,
+        }
+    }
+
+    // How the items of its list lie.
+    fn shape(self) -> Shape
+        ensures { result ≡ shape_of self }
+    {
+        match self {
+            Head::Bad | Head::Submit { .. } | Head::Forward { .. } => Shape::Operation,
+            Head::ShardAppend { .. } => Shape::Placed,
+            Head::ExecNotif { .. } | Head::Executed { .. } | Head::Response { .. } => Shape::Read,
+        }
+    }
+
+    // How many bytes the fields are.
+    fn width(self) -> usize
+        ensures { (result ≡ field_width self) × (result ≤ 7) }
+    {
+        match self {
+            Head::Bad => 0,
+            Head::Executed { .. } => 2,
+            Head::ExecNotif { .. } | Head::Response { .. } => 3,
+            Head::Submit { .. } | Head::ShardAppend { .. } => 5,
+            Head::Forward { .. } => 7,
+        }
     }
 }
 
-fn shape_of(head: Head) -> Shape
-    ensures { result ≡ shape_of head }
-{
-    match head {
-        Head::Bad => Shape::Operation,
-        Head::Submit {
-            client: _,
-            number: _,
-            ack: _,
-        } => Shape::Operation,
-        Head::Forward {
-            log_number: _,
-            client: _,
-            number: _,
-            ack: _,
-        } => Shape::Operation,
-        Head::ShardAppend {
-            shard: _,
-            log_number: _,
-            sn: _,
-        } => Shape::Placed,
-        Head::ExecNotif {
-            shard: _,
-            log_number: _,
-        } => Shape::Read,
-        Head::Executed { log_number: _ } => Shape::Read,
-        Head::Response {
-            client: _,
-            number: _,
-        } => Shape::Read,
-    }
-}
-
-fn field_width(head: Head) -> usize
-    ensures { (result ≡ field_width head) × (result ≤ 7) }
-{
-    match head {
-        Head::Bad => 0,
-        Head::Submit {
-            client: _,
-            number: _,
-            ack: _,
-        } => 5,
-        Head::Forward {
-            log_number: _,
-            client: _,
-            number: _,
-            ack: _,
-        } => 7,
-        Head::ShardAppend {
-            shard: _,
-            log_number: _,
-            sn: _,
-        } => 5,
-        Head::ExecNotif {
-            shard: _,
-            log_number: _,
-        } => 3,
-        Head::Executed { log_number: _ } => 2,
-        Head::Response {
-            client: _,
-            number: _,
-        } => 3,
-    }
-}
-
-fn item_width(shape: Shape) -> usize
-    ensures { (result ≡ width shape) × (result ≤ 7) }
-{
-    match shape {
-        Shape::Operation => 6,
-        Shape::Placed => 7,
-        Shape::Read => 6,
+impl Shape {
+    // How many bytes an item is.
+    fn width(self) -> usize
+        ensures { (result ≡ width self) × (result ≤ 7) }
+    {
+        match self {
+            Shape::Operation | Shape::Read => 6,
+            Shape::Placed => 7,
+        }
     }
 }
 
@@ -246,9 +213,7 @@ fn item_width(shape: Shape) -> usize
 fn len_of(head: Head, count: u8) -> usize
     ensures { (result ≡ len_of head count) × (result ≤ 4096) }
 {
-    let fields = field_width(head);
-    let item = item_width(shape_of(head));
-    HEADER + fields + 1 + item * (count as usize)
+    HEADER + head.width() + 1 + head.shape().width() * usize::from(count)
 }
 
 // ---- The tests
@@ -256,30 +221,23 @@ fn len_of(head: Head, count: u8) -> usize
 fn item_ok(x: Item) -> bool
     ensures { result ≡ ok_item x }
 {
-    (x.place <= LAST_PLACE) & (x.code <= 1) & ((1 <= x.code) | (x.value == 0))
+    x.place <= LAST_PLACE && x.code <= 1 && (1 <= x.code || x.value == 0)
 }
 
-// The first `count` of four items: each is right, and places rise strictly.
-pub fn items_ok(count: u8, items: [Item; 4]) -> bool
-    ensures { result ≡ ok_items count items }
+// The items of a list: each is right, and places rise strictly.
+pub fn items_ok(list: Items) -> bool
+    ensures { result ≡ ok_items list.count list.items }
 {
-    let a = items[0];
-    let b = items[1];
-    let c = items[2];
-    let d = items[3];
-    (count <= 4)
-        & ((count <= 0) | item_ok(a))
-        & ((count <= 1) | ((a.place < b.place) & item_ok(b)))
-        & ((count <= 2) | ((b.place < c.place) & item_ok(c)))
-        & ((count <= 3) | ((c.place < d.place) & item_ok(d)))
+    let items = list.as_slice();
+    list.count <= 4
+        && items.iter().all(|x| item_ok(*x))
+        && items.is_sorted_by(|a, b| a.place < b.place)
 }
 
 fn window_ok(number: u16, ack: u16) -> bool
     ensures { result ≡ ok_window number ack }
 {
-    let high = number as u32;
-    let low = ack as u32;
-    (number <= LAST_NUMBER) & (ack <= number) & (high <= low + 7)
+    number <= LAST_NUMBER && ack <= number && number - ack <= 7
 }
 
 fn head_ok(head: Head, count: u8) -> bool
@@ -291,28 +249,28 @@ fn head_ok(head: Head, count: u8) -> bool
             client,
             number,
             ack,
-        } => (1 <= count) & (client <= LAST_CLIENT) & window_ok(number, ack),
+        } => 1 <= count && client <= LAST_CLIENT && window_ok(number, ack),
         Head::Forward {
             log_number,
             client,
             number,
             ack,
-        } => (1 <= count)
-            & (log_number <= LAST_LOG_NUMBER)
-            & (client <= LAST_CLIENT)
-            & window_ok(number, ack),
+        } => 1 <= count
+            && log_number <= LAST_LOG_NUMBER
+            && client <= LAST_CLIENT
+            && window_ok(number, ack),
         Head::ShardAppend {
             shard,
             log_number,
             sn,
-        } => (1 <= count)
-            & ((1 <= shard) & (shard <= LAST_SHARD))
-            & (log_number <= LAST_LOG_NUMBER)
-            & ((1 <= sn) & (sn <= LAST_SN)),
-        Head::ExecNotif { shard, log_number } => ((1 <= shard) & (shard <= LAST_SHARD))
-            & (log_number <= LAST_LOG_NUMBER),
+        } => 1 <= count
+            && (1..=LAST_SHARD).contains(&shard)
+            && log_number <= LAST_LOG_NUMBER
+            && (1..=LAST_SN).contains(&sn),
+        Head::ExecNotif { shard, log_number } => (1..=LAST_SHARD).contains(&shard)
+            && log_number <= LAST_LOG_NUMBER,
         Head::Executed { log_number } => log_number <= LAST_LOG_NUMBER,
-        Head::Response { client, number } => (client <= LAST_CLIENT) & (number <= LAST_NUMBER),
+        Head::Response { client, number } => client <= LAST_CLIENT && number <= LAST_NUMBER,
     }
 }
 
@@ -320,10 +278,7 @@ fn head_ok(head: Head, count: u8) -> bool
 pub fn frame_ok(f: Frame) -> bool
     ensures { result ≡ valid f }
 {
-    let head = f.head;
-    let items = f.items;
-    let count = f.count;
-    head_ok(head, count) & items_ok(count, items)
+    head_ok(f.head, f.list.count) && items_ok(f.list)
 }
 
 // ---- The reader
@@ -332,34 +287,17 @@ pub fn frame_ok(f: Frame) -> bool
 pub fn no_item() -> Item
     ensures { result ≡ no_item }
 {
-    Item {
-        place: 0,
-        code: 0,
-        key: 0,
-        value: 0,
-    }
+    Item::default()
 }
 
 // Refusal 1 as a frame.
+#[tactic(auto, unfolding(crate::specs::Frames::bad_frame))]
 pub fn bad_frame() -> Frame
     ensures { result ≡ bad_frame }
 {
-    let head = Head::Bad;
-    let items = [no_item(); 4];
     Frame {
-        head: head,
-        count: 0,
-        items: items,
-    }
-}
-
-fn no_front() -> Front
-    ensures { result ≡ no_front }
-{
-    let frame = bad_frame();
-    Front {
-        frame: frame,
-        end: 0,
+        head: Head::Bad,
+        list: Items::new(),
     }
 }
 
@@ -390,154 +328,88 @@ fn item_at(shape: Shape, i: u8, s: &[u8], at: usize) -> Item
     }
 }
 
-// Item i where it is below the count; what stands behind the list is not looked at.
-fn slot_at(shape: Shape, i: u8, count: u8, s: &[u8], at: usize) -> Item
-    requires { at < 3000 }
-    ensures { result ≡ slot_at shape i count s.now at }
-{
-    if i < count {
-        item_at(shape, i, s, at)
-    } else {
-        no_item()
-    }
-}
-
-// The four slots of a list whose items begin at `at`.
-fn items_at(shape: Shape, count: u8, s: &[u8], at: usize) -> [Item; 4]
+// The list that stands at a place, its count first. At most four items are read, and what stands behind the list is not looked at.
+fn list_at(shape: Shape, s: &[u8], at: usize) -> Items
     requires { at < 1000 }
-    ensures { result ≡ slots shape 0 4 count s.now at }
+    ensures { result ≡ list_at shape s.now at }
 {
-    let w = item_width(shape);
-    let a = slot_at(shape, 0, count, s, at);
-    let b = slot_at(shape, 1, count, s, at + w);
-    let c = slot_at(shape, 2, count, s, at + w + w);
-    let d = slot_at(shape, 3, count, s, at + w + w + w);
-    [a, b, c, d]
-}
-
-// The frame with these fields: the list stands behind them, its count first.
-fn list_of(head: Head, body: &[u8]) -> Frame
-    ensures { result ≡ listed head body.now }
-{
-    let at = field_width(head);
-    let count = byte(body, at);
-    let items = items_at(shape_of(head), count, body, at + 1);
-    Frame {
-        head: head,
-        count: count,
-        items: items,
+    let count = byte(s, at);
+    let mut items = [no_item(); 4];
+    for i in 0..count.min(4) {
+        items[usize::from(i)] = item_at(shape, i, s, at + 1 + shape.width() * usize::from(i));
     }
-}
-
-fn submit(body: &[u8]) -> Head
-    ensures { result ≡ read_submit body.now }
-{
-    Head::Submit {
-        client: byte(body, 0),
-        number: u16_at(body, 1),
-        ack: u16_at(body, 3),
-    }
-}
-
-fn forward(body: &[u8]) -> Head
-    ensures { result ≡ read_forward body.now }
-{
-    Head::Forward {
-        log_number: u16_at(body, 0),
-        client: byte(body, 2),
-        number: u16_at(body, 3),
-        ack: u16_at(body, 5),
-    }
-}
-
-fn shard_append(body: &[u8]) -> Head
-    ensures { result ≡ read_shard_append body.now }
-{
-    Head::ShardAppend {
-        shard: byte(body, 0),
-        log_number: u16_at(body, 1),
-        sn: u16_at(body, 3),
-    }
-}
-
-fn exec_notif(body: &[u8]) -> Head
-    ensures { result ≡ read_exec_notif body.now }
-{
-    Head::ExecNotif {
-        shard: byte(body, 0),
-        log_number: u16_at(body, 1),
-    }
-}
-
-fn executed(body: &[u8]) -> Head
-    ensures { result ≡ read_executed body.now }
-{
-    Head::Executed {
-        log_number: u16_at(body, 0),
-    }
-}
-
-fn response(body: &[u8]) -> Head
-    ensures { result ≡ read_response body.now }
-{
-    Head::Response {
-        client: byte(body, 0),
-        number: u16_at(body, 1),
-    }
+    Items { count, items }
 }
 
 // "The two-byte kind decides the body's layout."
 fn head_of(s: &[u8], body: &[u8]) -> Head
     ensures { result ≡ head_of (two_at s.now 2) body.now }
 {
-    let kind = u16_at(s, LENGTH);
-    match kind {
-        1 => submit(body),
-        2 => forward(body),
-        3 => shard_append(body),
-        4 => exec_notif(body),
-        5 => executed(body),
-        6 => response(body),
+    match u16_at(s, LENGTH) {
+        1 => Head::Submit {
+            client: byte(body, 0),
+            number: u16_at(body, 1),
+            ack: u16_at(body, 3),
+        },
+        2 => Head::Forward {
+            log_number: u16_at(body, 0),
+            client: byte(body, 2),
+            number: u16_at(body, 3),
+            ack: u16_at(body, 5),
+        },
+        3 => Head::ShardAppend {
+            shard: byte(body, 0),
+            log_number: u16_at(body, 1),
+            sn: u16_at(body, 3),
+        },
+        4 => Head::ExecNotif {
+            shard: byte(body, 0),
+            log_number: u16_at(body, 1),
+        },
+        5 => Head::Executed {
+            log_number: u16_at(body, 0),
+        },
+        6 => Head::Response {
+            client: byte(body, 0),
+            number: u16_at(body, 1),
+        },
         _ => Head::Bad,
     }
 }
 
-// The only frame that the slice can begin with.
+// The only frame that the slice can begin with: the list stands behind the fields.
 fn candidate(s: &[u8]) -> Frame
     requires { body_at ≤ length s.now }
     ensures { result ≡ candidate_of s.now }
 {
-    let start = LENGTH + HEADER;
-    let body = &s[start..];
-    list_of(head_of(s, body), body)
+    let body = &s[LENGTH + HEADER..];
+    let head = head_of(s, body);
+    let list = list_at(head.shape(), body, head.width());
+    Frame { head, list }
 }
 
-// The frame where its rules hold, the length field is its own and its bytes are there; else the refusal.
-fn accepted(f: Frame, s: &[u8]) -> Front
-    ensures { result ≡ accept f s.now }
+// The frame where its rules hold, the length field is its own and its bytes are there.
+fn accepted(frame: Frame, s: &[u8]) -> Option<Front>
+    ensures { result ≡ accept frame s.now }
 {
-    let head = f.head;
-    let len = len_of(head, f.count);
-    let field = u16_at(s, 0) as usize;
+    let len = len_of(frame.head, frame.list.count);
+    let field = usize::from(u16_at(s, 0));
     let end = len + LENGTH;
-    let ok = frame_ok(f) & (field == len) & (end <= s.len());
-    if ok {
-        Front { frame: f, end: end }
+    if frame_ok(frame) && field == len && end <= s.len() {
+        Some(Front { frame, end })
     } else {
-        no_front()
+        None
     }
 }
 
 // The frame with which the slice begins and where it ends, whatever follows it: laws `front_back` and `front_means`.
-pub fn read_front(s: &[u8]) -> Front
+pub fn read_front(s: &[u8]) -> Option<Front>
     ensures { result ≡ read_front s.now }
 {
-    let start = LENGTH + HEADER;
-    if s.len() < start {
-        return no_front();
+    if s.len() < LENGTH + HEADER {
+        return None;
     }
-    let f = candidate(s);
-    accepted(f, s)
+    accepted(candidate(s), s)
 }
 
 // The frame that the slice is, or the refusal: "Nothing may follow a frame." Its number and its values are those of the rules' reading, and
@@ -546,217 +418,116 @@ pub fn read_frame(s: &[u8]) -> Frame
     ensures value { result ≡ read_frame s.now }
     ensures head_value { (answer_of result.head ≡ answer_to (decode s.now)) × (meaning result ≡ decode s.now) }
 {
-    let front = read_front(s);
-    let frame = front.frame;
-    if front.end == s.len() {
-        frame
-    } else {
-        bad_frame()
+    match read_front(s) {
+        Some(Front { frame, end }) if end == s.len() => frame,
+        _ => bad_frame(),
     }
 }
 
-// ---- The writer: each leaf stores from `at` on, where the slice reaches, and returns where its bytes end
+// ---- The writer
 
-fn store(out: &mut [u8], at: usize, x: u8)
-    ensures { out.new ≡ set out.old at x }
-{
-    if at < out.len() {
-        out[at] = x;
-    }
-}
-
-fn put8(out: &mut [u8], at: usize, x: u8) -> usize
-    requires { at < 4200 }
-    ensures { Put out.old out.new at result (x ∷ []) }
-{
-    store(out, at, x);
-    at + 1
-}
-
-fn put16(out: &mut [u8], at: usize, x: u16) -> usize
-    requires { at < 4100 }
-    ensures { Put out.old out.new at result (two x) }
-{
-    let high = put8(out, at, (x % 256) as u8);
-    put8(out, high, (x / 256 % 256) as u8)
-}
-
-fn put32(out: &mut [u8], at: usize, x: u32) -> usize
-    requires { at < 4000 }
-    ensures { Put out.old out.new at result (four x) }
-{
-    let low = (x % 65536) as u16;
-    let high = (x / 65536) as u16;
-    let next = put16(out, at, low);
-    put16(out, next, high)
-}
-
-// "0 get or 1 put (1), key (1), value (4; 0 for get)"
-fn put_operation(out: &mut [u8], at: usize, x: Item) -> usize
-    requires { at < 3500 }
-    ensures { Put out.old out.new at result (item_bytes Shape.Operation x) }
-{
-    let at = put8(out, at, x.code);
-    let at = put8(out, at, x.key);
-    put32(out, at, x.value)
-}
-
-// "A placed operation has its place 0..3 (1) before it."
-fn put_placed(out: &mut [u8], at: usize, x: Item) -> usize
-    requires { at < 3400 }
-    ensures { Put out.old out.new at result (item_bytes Shape.Placed x) }
-{
-    let at = put8(out, at, x.place);
-    put_operation(out, at, x)
-}
-
-// "place (1), present 0 or 1 (1), value (4; 0 if absent)"
-fn put_read(out: &mut [u8], at: usize, x: Item) -> usize
-    requires { at < 3400 }
-    ensures { Put out.old out.new at result (item_bytes Shape.Read x) }
-{
-    let at = put8(out, at, x.place);
-    let at = put8(out, at, x.code);
-    put32(out, at, x.value)
-}
-
-fn put_item(out: &mut [u8], shape: Shape, at: usize, x: Item) -> usize
-    requires { at < 3000 }
-    ensures { Put out.old out.new at result (item_bytes shape x) }
-{
-    match shape {
-        Shape::Operation => put_operation(out, at, x),
-        Shape::Placed => put_placed(out, at, x),
-        Shape::Read => put_read(out, at, x),
-    }
-}
-
-// Item i of count, or nothing.
-fn put_slot(out: &mut [u8], shape: Shape, at: usize, i: u8, count: u8, x: Item) -> usize
-    requires { at < 2900 }
-    ensures put { Put out.old out.new at result (slot_bytes shape i count x) }
-    ensures upper_bound { result ≤ at + 7 }
-{
-    if i < count {
-        return put_item(out, shape, at, x);
-    }
-    at
-}
-
-// Items i and i + 1 of count.
-fn put_pair(out: &mut [u8], shape: Shape, at: usize, i: u8, count: u8, x: Item, y: Item) -> usize
-    requires { (at < 2850) × (i < 4) }
-    ensures put { Put out.old out.new at result (slot_bytes shape i count x ++ slot_bytes shape (i + 1) count y) }
-    ensures upper_bound { result ≤ at + 14 }
-{
-    let at = put_slot(out, shape, at, i, count, x);
-    put_slot(out, shape, at, i + 1, count, y)
-}
-
-// The count and then as many items.
-fn put_list(out: &mut [u8], shape: Shape, at: usize, count: u8, items: [Item; 4]) -> usize
-    requires { at < 2800 }
-    ensures { Put out.old out.new at result (list_bytes shape count items) }
-{
-    let a = items[0];
-    let b = items[1];
-    let c = items[2];
-    let d = items[3];
-    let at = put8(out, at, count);
-    let at = put_pair(out, shape, at, 0, count, a, b);
-    put_pair(out, shape, at, 2, count, c, d)
-}
-
-// The length field and the header.
-fn put_header(out: &mut [u8], len: u16, kind: u16) -> usize
-    ensures { Put out.old out.new 0 result (two len ++ header_bytes kind) }
-{
-    let header = put16(out, 0, len);
-    put16(out, header, kind)
-}
-
-fn put_submit(out: &mut [u8], at: usize, client: u8, number: u16, ack: u16) -> usize
-    requires { at < 200 }
-    ensures { Put out.old out.new at result (field_bytes (Head.Submit client number ack)) }
-{
-    let at = put8(out, at, client);
-    let at = put16(out, at, number);
-    put16(out, at, ack)
-}
-
-fn put_forward(
-    out: &mut [u8],
+// An area, and how many of its bytes are written.
+#[derive(Drop)]
+struct Writer<'a> {
+    out: &'a mut [u8],
     at: usize,
-    log_number: LogNumber,
-    client: u8,
-    number: u16,
-    ack: u16,
-) -> usize
-    requires { at < 100 }
-    ensures { Put out.old out.new at result (field_bytes (Head.Forward log_number client number ack)) }
-{
-    let at = put16(out, at, log_number);
-    put_submit(out, at, client, number, ack)
 }
 
-fn put_shard_append(out: &mut [u8], at: usize, shard: u8, log_number: LogNumber, sn: u16) -> usize
-    requires { at < 100 }
-    ensures { Put out.old out.new at result (field_bytes (Head.ShardAppend shard log_number sn)) }
-{
-    let at = put8(out, at, shard);
-    let at = put16(out, at, log_number);
-    put16(out, at, sn)
-}
+// Each method stores behind what is written, and only that.
+impl Writer<'_> {
+    fn put(&mut self, bytes: &[u8])
+        requires { self.old.at + length bytes.now ≤ length self.old.out.now }
+        ensures same_area { self.new.out.ghost_name ≡ self.old.out.ghost_name }
+        ensures put { Put self.old.out.now self.new.out.now self.old.at self.new.at bytes.now }
+    {
+        let end = self.at + bytes.len();
+        self.out[self.at..end].copy_from_slice(bytes);
+        self.at = end;
+    }
 
-fn put_exec_notif(out: &mut [u8], at: usize, shard: u8, log_number: LogNumber) -> usize
-    requires { at < 100 }
-    ensures { Put out.old out.new at result (field_bytes (Head.ExecNotif shard log_number)) }
-{
-    let at = put8(out, at, shard);
-    put16(out, at, log_number)
-}
+    fn put16(&mut self, x: u16)
+        requires { self.old.at + 2 ≤ length self.old.out.now }
+        ensures same_area { self.new.out.ghost_name ≡ self.old.out.ghost_name }
+        ensures put { Put self.old.out.now self.new.out.now self.old.at self.new.at (two x) }
+    {
+        self.put(&x.to_le_bytes());
+    }
 
-fn put_executed(out: &mut [u8], at: usize, log_number: LogNumber) -> usize
-    requires { at < 100 }
-    ensures { Put out.old out.new at result (field_bytes (Head.Executed log_number)) }
-{
-    put16(out, at, log_number)
-}
+    // "0 get or 1 put (1), key (1), value (4; 0 for get)"; "A placed operation has its place 0..3 (1) before it."; "place (1),
+    // present 0 or 1 (1), value (4; 0 if absent)"
+    fn item(&mut self, shape: Shape, x: Item)
+        requires { self.old.at + width shape ≤ length self.old.out.now }
+        ensures same_area { self.new.out.ghost_name ≡ self.old.out.ghost_name }
+        ensures put { Put self.old.out.now self.new.out.now self.old.at self.new.at (item_bytes shape x) }
+    {
+        match shape {
+            Shape::Operation => self.put(&[x.code, x.key]),
+            Shape::Placed => self.put(&[x.place, x.code, x.key]),
+            Shape::Read => self.put(&[x.place, x.code]),
+        }
+        self.put(&x.value.to_le_bytes());
+    }
 
-fn put_response(out: &mut [u8], at: usize, client: u8, number: u16) -> usize
-    requires { at < 100 }
-    ensures { Put out.old out.new at result (field_bytes (Head.Response client number)) }
-{
-    let at = put8(out, at, client);
-    put16(out, at, number)
-}
+    // The count and then as many items.
+    fn list(&mut self, shape: Shape, list: &Items)
+        requires few { list.now.count ≤ 4 }
+        requires room { self.old.at + 1 + width shape * list.now.count ≤ length self.old.out.now }
+        ensures same_area { self.new.out.ghost_name ≡ self.old.out.ghost_name }
+        ensures put { Put self.old.out.now self.new.out.now self.old.at self.new.at (list_bytes shape list.now.count list.now.items) }
+    {
+        self.put(&[list.count]);
+        for x in list.as_slice() {
+            self.item(shape, *x);
+        }
+    }
 
-// The fields of each kind by its writer.
-fn put_fields(out: &mut [u8], at: usize, head: Head) -> usize
-    requires { at < 100 }
-    ensures { Put out.old out.new at result (field_bytes head) }
-{
-    match head {
-        Head::Bad => at,
-        Head::Submit {
-            client,
-            number,
-            ack,
-        } => put_submit(out, at, client, number, ack),
-        Head::Forward {
-            log_number,
-            client,
-            number,
-            ack,
-        } => put_forward(out, at, log_number, client, number, ack),
-        Head::ShardAppend {
-            shard,
-            log_number,
-            sn,
-        } => put_shard_append(out, at, shard, log_number, sn),
-        Head::ExecNotif { shard, log_number } => put_exec_notif(out, at, shard, log_number),
-        Head::Executed { log_number } => put_executed(out, at, log_number),
-        Head::Response { client, number } => put_response(out, at, client, number),
+    // The fields of each kind.
+    fn fields(&mut self, head: Head)
+        requires { self.old.at + field_width head ≤ length self.old.out.now }
+        ensures same_area { self.new.out.ghost_name ≡ self.old.out.ghost_name }
+        ensures put { Put self.old.out.now self.new.out.now self.old.at self.new.at (field_bytes head) }
+    {
+        match head {
+            Head::Bad => {}
+            Head::Submit {
+                client,
+                number,
+                ack,
+            } => {
+                self.put(&[client]);
+                self.put16(number);
+                self.put16(ack);
+            }
+            Head::Forward {
+                log_number,
+                client,
+                number,
+                ack,
+            } => {
+                self.put16(log_number);
+                self.put(&[client]);
+                self.put16(number);
+                self.put16(ack);
+            }
+            Head::ShardAppend {
+                shard,
+                log_number,
+                sn,
+            } => {
+                self.put(&[shard]);
+                self.put16(log_number);
+                self.put16(sn);
+            }
+            Head::ExecNotif { shard, log_number } => {
+                self.put(&[shard]);
+                self.put16(log_number);
+            }
+            Head::Executed { log_number } => self.put16(log_number),
+            Head::Response { client, number } => {
+                self.put(&[client]);
+                self.put16(number);
+            }
+        }
     }
 }
 
@@ -767,17 +538,17 @@ pub fn write_frame(f: Frame, out: &mut [u8]) -> usize
     ensures value { result ≡ written_of f (length out.old) }
     ensures out_after { out.new ≡ laid_of f out.old }
 {
-    let head = f.head;
-    let count = f.count;
-    let items = f.items;
-    let kind = kind_of(head);
-    let len = len_of(head, count);
-    if (kind == 0) | (4 < count) | (out.len() < len + LENGTH) {
+    let kind = f.head.kind();
+    let len = len_of(f.head, f.list.count);
+    if kind == 0 || 4 < f.list.count || out.len() < LENGTH + len {
         return 0;
     }
-    let at = put_header(out, len as u16, kind);
-    let at = put_fields(out, at, head);
-    put_list(out, shape_of(head), at, count, items)
+    let mut writer = Writer { out, at: 0 };
+    writer.put16(len as u16);
+    writer.put16(kind);
+    writer.fields(f.head);
+    writer.list(f.head.shape(), &f.list);
+    writer.at
 }
 
 // The same behind the first `at` bytes, for frames back to back: returns where the frame's bytes end, and `at` where it writes nothing.

@@ -3,7 +3,7 @@
 -- Assumes nothing.
 use mathlib.Core.Path.{◌≡◌, refl, ap, sym, ◌∙◌}
 use mathlib.Core.Bool.{Bool, true, false, cond}
-use mathlib.Core.List.{List, [], ◌∷◌, ◌++◌}
+use mathlib.Core.List.{List, [], ◌∷◌, ◌++◌, append_assoc}
 use Prim.Native.Nat.{ℕ, zero, suc, ◌+◌, ◌/◌, ◌%◌, ◌^◌, ◌<◌, ◌≤◌}
 use native.Mathlib.Omega.{arith}
 use native.Mathlib.Nat.{pow-suc}
@@ -51,3 +51,9 @@ decimal_small x h = small 19 x h
 
 pub decimal_large : (x : ℕ) → 10 ≤ x → x < 2 ^ 64 → decimal_of x ≡ decimal_of (x / 10) ++ (48 + x % 10) ∷ []
 decimal_large x l h = large 19 x l ∙ ap (λ (ds : List ℕ). ds ++ (48 + x % 10) ∷ []) (sym (more 18 (x / 10) (omega arith)))
+
+-- how long a line is so far
+pub ruleset lengths = (decimal_few, length-append)
+
+-- what `decimal` is proved by
+pub ruleset decimal_laws = (decimal_small, decimal_large, length-append, append_assoc)

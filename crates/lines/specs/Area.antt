@@ -1,7 +1,6 @@
 -- What a line leaves in an area.
 -- Assumes nothing.
-use Rattle.std.specs.Prelude.{cond, ◌≡◌, List, ◌++◌, ℕ, ◌+◌, leb, length, drop}
-use Rattle.std.proofs.lemmas.List.Edits.{sets}
+use Rattle.std.specs.Prelude.{cond, ◌≡◌, List, ◌++◌, ℕ, leb, length, drop}
 
 -- a line from the first byte of an area, the other bytes as they were; an area of less than 128 bytes takes no line
 abbrev pub laid : (line area : List ℕ) → List ℕ
@@ -15,8 +14,3 @@ taken line area = cond (leb 128 (length area)) (length line) 0
 pub record Laid (line before after : List ℕ) (count : ℕ) : Type 0 where
   pub counted : count ≡ taken line before
   pub stands : after ≡ laid line before
-
--- the same of a part of a line, put byte by byte from a place on, and of the place behind it
-pub record Put (part before : List ℕ) (place : ℕ) (after : List ℕ) (next : ℕ) : Type 0 where
-  pub moved : next ≡ place + length part
-  pub stands : after ≡ sets before place part

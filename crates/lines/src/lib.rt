@@ -3,37 +3,41 @@
 // answer is 0. Every line ends with one newline.
 #![tactic(auto)]
 
-ghost use Rattle.std.specs.Prelude.{◌∷◌, [], length, ◌+◌, ◌<◌, ◌≤◌};
-ghost use Rattle.lines.specs.Text.{decimal_of, field_of, state_of, header_line, d_line, l_line, cut_line, setup_line};
-ghost use Rattle.lines.specs.Area.{Laid, Put};
+ghost use Rattle.std.specs.Prelude.{◌≡◌, List, ℕ, ◌∷◌, [], ◌++◌, length, take, ◌+◌, ◌<◌, ◌≤◌};
+ghost use Rattle.lines.specs.Text.{decimal_of, field_of, header_line, d_line, l_line, cut_line, setup_line};
+ghost use Rattle.lines.specs.Area.{Laid};
+ghost use Rattle.lines.specs.declared.TheConstants.{ROOM};
+
+use std::marker::Model;
 
 // The header: n and m.
+#[tactic(auto, using(crate::proofs::Digits::lengths), unfolding(crate::specs::Text::header_line))]
 pub fn header(n: u8, m: u8, out: &mut [u8]) -> usize
     ensures { Laid (header_line n m) out.old out.new result }
 {
-    if out.len() < 128 {
-        return 0;
-    }
-    let at = word(b"chain ", out, 0);
-    let at = field(n as u64, b' ', out, at);
-    let at = word(b"shards ", out, at);
-    field(m as u64, b'\n', out, at)
+    let mut line = Line::new();
+    line.word(b"chain ");
+    line.field(n.into(), b' ');
+    line.word(b"shards ");
+    line.field(m.into(), b'\n');
+    line.lay(out)
 }
 
 // A d line: record index, answer, frames sent.
+#[tactic(auto, using(crate::proofs::Digits::lengths), unfolding(crate::specs::Text::d_line))]
 pub fn d_line(index: u64, answer: u8, frames: u8, out: &mut [u8]) -> usize
     ensures { Laid (d_line index answer frames) out.old out.new result }
 {
-    if out.len() < 128 {
-        return 0;
-    }
-    let at = byte(b'd', out, 0);
-    let at = field(index, b' ', out, at);
-    let at = field(answer as u64, b' ', out, at);
-    field(frames as u64, b'\n', out, at)
+    let mut line = Line::new();
+    line.byte(b'd');
+    line.field(index, b' ');
+    line.field(answer.into(), b' ');
+    line.field(frames.into(), b'\n');
+    line.lay(out)
 }
 
 // An L line: board, log number, client, number, and PRE or EXE.
+#[tactic(auto, using(crate::proofs::Digits::lengths), unfolding(crate::specs::Text::l_line))]
 pub fn l_line(
     board: u8,
     log_number: u16,
@@ -44,87 +48,109 @@ pub fn l_line(
 ) -> usize
     ensures { Laid (l_line board log_number client number exe) out.old out.new result }
 {
-    if out.len() < 128 {
-        return 0;
-    }
-    let at = byte(b'L', out, 0);
-    let at = field(board as u64, b' ', out, at);
-    let at = field(log_number as u64, b' ', out, at);
-    let at = field(client as u64, b' ', out, at);
-    let at = field(number as u64, b' ', out, at);
-    let at = state(exe, out, at);
-    byte(b'\n', out, at)
+    let mut line = Line::new();
+    line.byte(b'L');
+    line.field(board.into(), b' ');
+    line.field(log_number.into(), b' ');
+    line.field(client.into(), b' ');
+    line.field(number.into(), b' ');
+    line.word(if exe { b"EXE" } else { b"PRE" });
+    line.byte(b'\n');
+    line.lay(out)
 }
 
 // The line that stands in place of a cut record's.
 pub fn cut_line(out: &mut [u8]) -> usize
     ensures { Laid cut_line out.old out.new result }
 {
-    if out.len() < 128 {
-        return 0;
-    }
-    word(b"cut\n", out, 0)
+    let mut line = Line::new();
+    line.word(b"cut\n");
+    line.lay(out)
 }
 
 // The only line where n or m is bad or missing.
 pub fn setup_line(out: &mut [u8]) -> usize
     ensures { Laid setup_line out.old out.new result }
 {
-    if out.len() < 128 {
-        return 0;
+    let mut line = Line::new();
+    line.word(b"setup 11\n");
+    line.lay(out)
+}
+
+// How many bytes an area must have to take a line. No line has more.
+const ROOM: usize = 128;
+
+// A line as it is written, part by part.
+#[derive(Drop)]
+struct Line {
+    bytes: [u8; ROOM],
+    len: usize,
+}
+
+impl Model for Line {
+    ghost Value = { List ℕ };
+
+    ghost view = { λ line. take line.len line.bytes };
+
+    ghost invariant = { λ line. line.len ≤ ROOM };
+}
+
+impl Line {
+    fn new() -> Line
+        ensures { result ≡ [] }
+    {
+        Line {
+            bytes: [0; ROOM],
+            len: 0,
+        }
     }
-    word(b"setup 11\n", out, 0)
-}
 
-// The parts of a line. Each is put at a place of the area, and the answer is the place behind it.
-
-fn state(exe: bool, out: &mut [u8], at: usize) -> usize
-    requires { at + 3 ≤ length out.old }
-    ensures { Put (state_of exe) out.old at out.new result × (result ≤ at + 3) }
-{
-    if exe {
-        word(b"EXE", out, at)
-    } else {
-        word(b"PRE", out, at)
+    // A number and the byte that ends it.
+    #[tactic(auto, using(crate::proofs::Digits::lengths))]
+    fn field(&mut self, x: u64, end: u8)
+        requires { length self.old + 21 ≤ ROOM }
+        ensures { self.new ≡ self.old ++ field_of x end }
+    {
+        self.decimal(x);
+        self.byte(end);
     }
-}
 
-// A number and the byte that ends it.
-fn field(x: u64, end: u8, out: &mut [u8], at: usize) -> usize
-    requires { at + 21 ≤ length out.old }
-    ensures { Put (field_of x end) out.old at out.new result × (result ≤ at + 21) }
-{
-    let at = decimal(x, out, at);
-    byte(end, out, at)
-}
-
-fn decimal(x: u64, out: &mut [u8], at: usize) -> usize
-    requires { at + length (decimal_of x) ≤ length out.old }
-    ensures { Put (decimal_of x) out.old at out.new result }
-{
-    if x < 10 {
-        return byte(48 + x as u8, out, at);
+    #[tactic(auto, using(crate::proofs::Digits::decimal_laws))]
+    fn decimal(&mut self, x: u64)
+        requires { length self.old + length (decimal_of x) ≤ ROOM }
+        ensures { self.new ≡ self.old ++ decimal_of x }
+    {
+        if 10 <= x {
+            self.decimal(x / 10);
+        }
+        self.byte(b'0' + (x % 10) as u8);
     }
-    let last = decimal(x / 10, out, at);
-    byte(48 + (x % 10) as u8, out, last)
-}
 
-fn word(s: &[u8], out: &mut [u8], at: usize) -> usize
-    requires { at + length s.now ≤ length out.old }
-    ensures { Put s.now out.old at out.new result }
-{
-    let mut i: usize = 0;
-    while i < s.len() {
-        out[at + i] = s[i];
-        i += 1;
+    fn word(&mut self, word: &[u8])
+        requires { length self.old + length word.now ≤ ROOM }
+        ensures { self.new ≡ self.old ++ word.now }
+    {
+        let end = self.len + word.len();
+        self.bytes[self.len..end].copy_from_slice(word);
+        self.len = end;
     }
-    at + i
-}
 
-fn byte(b: u8, out: &mut [u8], at: usize) -> usize
-    requires { at < length out.old }
-    ensures { Put (b ∷ []) out.old at out.new result }
-{
-    out[at] = b;
-    at + 1
+    fn byte(&mut self, b: u8)
+        requires { length self.old < ROOM }
+        ensures { self.new ≡ self.old ++ b ∷ [] }
+    {
+        self.bytes[self.len] = b;
+        self.len += 1;
+    }
+
+    // The line from the first byte of an area, if the area takes one.
+    fn lay(&self, out: &mut [u8]) -> usize
+        ensures { Laid self.now out.old out.new result }
+    {
+        if out.len() < ROOM {
+            return 0;
+        }
+        out[..self.len].copy_from_slice(&self.bytes[..self.len]);
+        self.len
+    }
 }

@@ -28,7 +28,7 @@ no_queue_view = refl
 pub no_queue_slots : (i : ℕ) → i < 256 → get_or no_queue.numbers i 1 ≡ 0
 no_queue_slots i h = get_or-replicate 256 i 0 1 h
 
--- ---- pushed
+-- ---- push
 
 -- the last taken number changed
 pub push_keeps_last : (q : Queue) (ind : ℕ) → (pushed_of q ind).taken ≡ q.taken
@@ -40,7 +40,7 @@ pub push_full : (q : Queue) (ind : ℕ) → 256 ≤ q.len → pushed_of q ind �
 unfolding pushed_of If◌then◌else◌
 push_full q ind h = rw (le-ltb q.len 256 h)
 
--- ---- changed_all: the queue of a shard outside the set changed
+-- ---- change_all: the queue of a shard outside the set changed
 
 outside : (change : Queue → Queue) (mask shard : ℕ) (qs : List Queue) (i : ℕ) (z : Queue) → in_mask mask (shard + i) ≡ false
     → get_or (change_from change mask shard qs) i z ≡ get_or qs i z

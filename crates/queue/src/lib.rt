@@ -2,13 +2,14 @@
 // What each function means in the rules' words stands in specs/View.antt and is proved in proofs/Meaning.antt.
 #![tactic(auto)]
 
-ghost use Rattle.std.specs.Prelude.{◌≡◌, ◌+◌, ◌≤◌};
-ghost use Rattle.queue.specs.Model.{no_queue, waiting, pushed_of, up_to, last_of, left_of, taken_of, changed_of, changed_all};
+ghost use Rattle.std.specs.Prelude.{◌≡◌, ◌+◌, ◌≤◌, ◌==◌, position};
+ghost use Rattle.queue.specs.Model.{no_queue, waiting, pushed_of, up_to, taken_of, changed_all};
 
 use frames::LogNumber;
 
 // "a first-in first-out queue of at most 256 log numbers, and the last number taken from it": the first len of numbers
-// wait, the slots behind them are zero, and taken is one more than the last number taken, 0 for none.
+// wait, the slots behind them are zero, and taken is one more than the last number taken, 0 for none. C lays the record out, so taken is a
+// number and no Option.
 #[repr(C)]
 #[derive(Clone, Copy)]
 pub struct Queue {
@@ -17,12 +18,12 @@ pub struct Queue {
     pub taken: u32,
 }
 
+// Nothing waits, and nothing was taken.
 pub fn no_queue() -> Queue
     ensures { result ≡ no_queue }
 {
-    let numbers = [0u16; 256];
     Queue {
-        numbers: numbers,
+        numbers: [0; 256],
         len: 0,
         taken: 0,
     }
@@ -35,113 +36,70 @@ fn after(log_number: LogNumber) -> u32
 }
 
 impl Queue {
-    // The number at the end; a full queue stays as it is.
-    pub fn pushed(mut self, log_number: LogNumber) -> Self
-        ensures { result ≡ pushed_of self log_number }
+    // One more number at the end; a full queue stays as it is.
+    pub fn push(&mut self, log_number: LogNumber)
+        ensures { self.new ≡ pushed_of self.old log_number }
     {
-        let at = self.len;
-        if 256 <= at {
-            return self;
+        if self.len < 256 {
+            self.numbers[self.len] = log_number;
+            self.len += 1;
         }
-        self.numbers[at] = log_number;
-        self.len = at + 1;
-        self
+    }
+
+    // How many wait before a number, if it waits.
+    fn before(&self, log_number: LogNumber) -> Option<usize>
+        requires { self.now.len ≤ 256 }
+        ensures { result ≡ position (λ x. x == log_number) (waiting self.now) }
+    {
+        self.numbers
+            .iter()
+            .take(self.len)
+            .position(|x| *x == log_number)
     }
 
     // "numbers are taken from the front until the entry itself has been taken": how many that are.
-    fn up_to(self, log_number: LogNumber) -> usize
-        requires { self.len ≤ 256 }
-        ensures { result ≡ up_to log_number (waiting self) }
+    fn up_to(&self, log_number: LogNumber) -> usize
+        requires { self.now.len ≤ 256 }
+        ensures value { result ≡ up_to log_number (waiting self.now) }
+        ensures few { result ≤ self.now.len }
     {
-        let len = self.len;
-        let mut i: usize = 0;
-        let count = loop {
-            if len <= i {
-                break i;
-            }
-            let x = self.numbers[i];
-            i += 1;
-            if x == log_number {
-                break i;
-            }
-        };
-        count
-    }
-
-    // One more than the last number taken, when the first count are taken.
-    fn last_of(self, count: usize) -> u32
-        requires { (self.len ≤ 256) × (count ≤ self.len) }
-        ensures { result ≡ last_of self count }
-    {
-        if count == 0 {
-            return self.taken;
+        match self.before(log_number) {
+            Some(before) => before + 1,
+            None => self.len,
         }
-        after(self.numbers[count - 1])
-    }
-
-    // What waits behind the first count, moved to the front.
-    fn left_of(self, count: usize) -> [LogNumber; 256]
-        requires { (self.len ≤ 256) × (count ≤ self.len) }
-        ensures { result ≡ left_of self count }
-    {
-        let left = self.len - count;
-        let mut numbers = [0u16; 256];
-        let mut i: usize = 0;
-        while i < left {
-            numbers[i] = self.numbers[i + count];
-            i += 1;
-        }
-        numbers
     }
 
     // "Taking up to p: if the last taken is none or below p, numbers are taken from the front until the entry itself has
     // been taken; otherwise nothing is taken." The comparison is strict: of p itself nothing is taken twice.
-    pub fn taken_up_to(self, log_number: LogNumber) -> Self
-        ensures { result ≡ taken_of self log_number }
+    pub fn take_up_to(&mut self, log_number: LogNumber)
+        ensures { self.new ≡ taken_of self.old log_number }
     {
-        if 256 < self.len {
-            return self;
-        }
-        if (log_number as u32) < self.taken {
-            return self;
+        // More than 256 numbers are no queue.
+        if self.len > 256 || (log_number as u32) < self.taken {
+            return;
         }
         let count = self.up_to(log_number);
-        let numbers = self.left_of(count);
-        Queue {
-            numbers: numbers,
-            len: self.len - count,
-            taken: self.last_of(count),
+        if count > 0 {
+            self.taken = after(self.numbers[count - 1]);
         }
-    }
-
-    // A fresh entry's number is pushed, that of an entry held before is taken up to. Inlined, it would make a board's step take more than
-    // 72,000 bytes of stack in place of 63,600.
-    #[inline(never)]
-    fn changed(self, fresh: bool, log_number: LogNumber) -> Self
-        ensures { result ≡ changed_of fresh log_number self }
-    {
-        if fresh {
-            self.pushed(log_number)
-        } else {
-            self.taken_up_to(log_number)
-        }
+        self.numbers.copy_within(count..self.len, 0);
+        self.len -= count;
+        self.numbers[self.len..].fill(0);
     }
 }
 
-// "queue it for each touched shard"; "Take up to the log number on each touched shard's queue"
-pub fn changed_all(queues: [Queue; 8], fresh: bool, mask: u8, log_number: LogNumber) -> [Queue; 8]
-    ensures { result ≡ changed_all queues fresh mask log_number }
+// "queue it for each touched shard"; "Take up to the log number on each touched shard's queue": a fresh entry's number is pushed, that of
+// an entry held before is taken up to.
+pub fn change_all(queues: &mut [Queue; 8], fresh: bool, shards: u8, log_number: LogNumber)
+    ensures { queues.new ≡ changed_all queues.old fresh shards log_number }
 {
-    let mut qs = queues;
-    let mut shard: u8 = 1;
-    while shard <= 8 {
-        let at = (shard - 1) as usize;
-        if entry::in_mask(mask, shard) {
-            let q = qs[at];
-            let p = q.changed(fresh, log_number);
-            qs[at] = p;
+    for (i, queue) in queues.iter_mut().enumerate() {
+        if entry::in_mask(shards, i as u8 + 1) {
+            if fresh {
+                queue.push(log_number);
+            } else {
+                queue.take_up_to(log_number);
+            }
         }
-        shard += 1;
     }
-    qs
 }

@@ -11,11 +11,12 @@ ghost use Rattle.records.specs.Front.{part_length, front_of};
 pub fn usable(n: u8, m: u8) -> bool
     ensures { result ≡ usable_of n m }
 {
-    (2 <= n) & (n <= 8) & ((1 <= m) & (m <= 8))
+    (2..=8).contains(&n) && (1..=8).contains(&m)
 }
 
-// What stands at the front of some bytes.
-#[derive(Clone, Copy)]
+// What stands at the front of some bytes. An enum of three: a reader goes on after Need and stops after Cut, and bench_means' definitions are over
+// these three.
+#[derive(Clone, Copy, Debug, PartialEq, Eq)]
 pub enum Next {
     // A record: its address, and where it ends. Its frame is what lies between.
     Record { address: u8, end: usize },
@@ -29,24 +30,25 @@ pub enum Next {
 pub fn record_at(s: &[u8]) -> Next
     ensures { result ≡ next_of s.now }
 {
-    if s.len() < 3 {
+    let [address, low, high, rest @ ..] = s else {
         return Next::Need;
-    }
-    let length = s[1] as usize + 256 * (s[2] as usize);
-    if 36 < length {
+    };
+    let length = u16::from_le_bytes([*low, *high]) as usize;
+    if length > 36 {
         return Next::Cut;
     }
-    if s.len() < 3 + length {
+    if rest.len() < length {
         return Next::Need;
     }
     Next::Record {
-        address: s[0],
+        address: *address,
         end: 3 + length,
     }
 }
 
-// Whom an address names. Board i and shard i stand at i - 1.
-#[derive(Clone, Copy)]
+// Whom an address names. Board i and shard i stand at i - 1. Nobody is one of three: 01 answers it with 2, and bench_means' definitions are over these
+// three.
+#[derive(Clone, Copy, Debug, PartialEq, Eq)]
 pub enum Receiver {
     Board(usize),
     Shard(usize),
@@ -59,37 +61,20 @@ pub fn named(n: u8, m: u8, address: u8) -> Receiver
     ensures { result ≡ receiver_of n m address }
 {
     match address {
-        1..=8 => {
-            if address <= n {
-                return Receiver::Board(address as usize - 1);
-            }
-            Receiver::Nobody
-        }
-        17..=24 => {
-            if address - 16 <= m {
-                return Receiver::Shard(address as usize - 17);
-            }
-            Receiver::Nobody
-        }
+        1..=8 if address <= n => Receiver::Board(address as usize - 1),
+        17..=24 if address - 16 <= m => Receiver::Shard(address as usize - 17),
         _ => Receiver::Nobody,
     }
 }
 
 // The bytes from..end of s are moved to its front; how many they are. Where there is no such part nothing is moved.
+#[tactic(auto, using(crate::proofs::Front::front_laws))]
 pub fn to_front(s: &mut [u8], from: usize, end: usize) -> usize
     ensures { (result ≡ part_length from end (length s.old)) × (s.new ≡ front_of from end s.old) }
 {
-    if end < from {
+    if from > end || end > s.len() {
         return 0;
     }
-    if s.len() < end {
-        return 0;
-    }
-    let count = end - from;
-    let mut i: usize = 0;
-    while i < count {
-        s[i] = s[from + i];
-        i += 1;
-    }
-    count
+    s.copy_within(from..end, 0);
+    end - from
 }

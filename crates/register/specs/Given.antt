@@ -1,18 +1,18 @@
 -- What a covered function gives is the record and what stands beside it. Here the one is taken off, and the two are put together again.
 -- Assumes nothing.
-use Rattle.std.specs.Prelude.{ℕ}
+use Rattle.std.specs.Prelude.{ℕ, Result, Ok, Err}
+use Rattle.rules.specs.Answers.{done}
+use Rattle.refusal.specs.declared.Refusal.{Refusal}
+use Rattle.refusal.specs.Number.{number_of}
 use Rattle.session.specs.declared.Session.{Session}
-use Rattle.session.specs.declared.Started.{Started}
 use Rattle.session.specs.declared.Sent.{Sent}
-use Rattle.session.specs.declared.Submitted.{Submitted}
 use Rattle.session.specs.declared.Reply.{Reply}
-use Rattle.session.specs.declared.Responded.{Responded}
+use Rattle.session.specs.Model.{Started, Submitted, Responded}
+use Rattle.send.specs.declared.Sent.{Sent as BoardSent}
 use Rattle.board.specs.declared.Board.{Board}
-use Rattle.board.specs.declared.Started.{Started as BoardStarted}
-use Rattle.board.specs.declared.Stepped.{Stepped as BoardStepped}
+use Rattle.board.specs.Model.{Started as BoardStarted, Stepped as BoardStepped}
 use Rattle.shard.specs.declared.Shard.{Shard}
-use Rattle.shard.specs.declared.Started.{Started as ShardStarted}
-use Rattle.shard.specs.declared.Stepped.{Stepped as ShardStepped}
+use Rattle.shard.specs.Model.{Started as ShardStarted, Stepped as ShardStepped}
 use Rattle.register.specs.declared.Stepped.{Stepped}
 
 -- ---- A session
@@ -47,3 +47,10 @@ shard_answer r = record { answer = r.answer; frames = r.frames; bytes = r.bytes 
 
 abbrev pub shard_stepped : Shard → Stepped → ShardStepped
 shard_stepped s r = record { shard = s; answer = r.answer; frames = r.frames; bytes = r.bytes }
+
+-- ---- A result
+
+-- the answer that is handed over for a step's result: "Answer 0 means the step was taken"; of a refusal the counts are 0
+abbrev pub shown : Result BoardSent Refusal → Stepped
+shown (Ok sent) = record { answer = done; frames = sent.frames; bytes = sent.bytes }
+shown (Err refusal) = record { answer = number_of refusal; frames = 0; bytes = 0 }

@@ -1,6 +1,6 @@
 // The register as a library for firmware. The record of a session, a board or a shard group belongs to the caller's program, "which lends it
-// for one call": each function copies the record out whole, hands it by value to the covered function of the record's own crate, stores
-// back what that gives, and answers what stood beside it. A start stores without looking at what was there.
+// for one call": each function lends it on to the method of the record's own crate, which changes it in place, and shows the result as the answer that C
+// is handed: a refusal's number or 0, and what stands beside it. A start writes every field without looking at what was there.
 //
 // Each promise is whole, for every input and every value of a record: the answer, the record at exit and every byte of the out area
 // at exit. Beside it stands what that means in the rules' words, of a record that starts and calls have made (Held); and the promise once
@@ -9,16 +9,18 @@
 #![tactic(auto)]
 
 ghost use Rattle.std.specs.Prelude.{◌≡◌, length};
+ghost use Rattle.refusal.specs.Number.{answer_of};
 ghost use Rattle.session.specs.Model.{started_of, invoked_of, invoke_out, retried_of, retry_out, responded_of};
 ghost use Rattle.session.specs.View as SessionView;
 ghost use Rattle.board.specs.Model as Boards;
 ghost use Rattle.board_means.specs.View as BoardView;
 ghost use Rattle.shard.specs.Model as Shards;
 ghost use Rattle.shard.specs.View as ShardView;
-ghost use Rattle.register.specs.Given.{started, submitted, responded, board_started, board_answer, board_stepped, shard_started, shard_answer, shard_stepped};
+ghost use Rattle.register.specs.Given.{shown, started, submitted, responded, board_started, board_answer, board_stepped, shard_started, shard_answer, shard_stepped};
 ghost use Rattle.register.specs.Promised.{SessionStarts, SessionInvokes, SessionRetries, SessionResponds, BoardStarts, BoardSteps, ShardStarts, ShardSteps};
 
 use board::Board;
+use refusal::Refusal;
 use session::{Operations, Reply, Sent, Session};
 use shard::Shard;
 
@@ -31,8 +33,36 @@ pub struct Stepped {
     pub bytes: usize,
 }
 
-// What each function below does, whatever its callee is: the record goes to the callee by value, what the callee leaves of it is stored back, and
-// what stood beside it is the answer. So what the callee ensures of the two holds of the lent record and the answer.
+// What a step sent; of a refusal the counts are 0.
+impl From<Result<send::Sent, Refusal>> for Stepped {
+    ghost from_gives = { λ outcome stepped. stepped ≡ shown outcome };
+
+    fn from(outcome: Result<send::Sent, Refusal>) -> Stepped {
+        match outcome {
+            Ok(send::Sent { frames, bytes }) => Stepped {
+                answer: 0,
+                frames,
+                bytes,
+            },
+            Err(refusal) => Stepped {
+                answer: refusal.into(),
+                frames: 0,
+                bytes: 0,
+            },
+        }
+    }
+}
+
+// The answer of a start: a refusal's number, or 0.
+fn answer(start: Result<(), Refusal>) -> u8
+    ensures { result ≡ answer_of start }
+{
+    start.err().map_or(0, u8::from)
+}
+
+// What a lent record comes to where it goes to a callee by value, whatever that is: what the callee leaves of it is stored back, and what stood beside
+// it is the answer. So what the callee ensures of the two holds of the lent record and the answer. The functions below need no such copy: what they
+// call changes the lent record in place.
 fn thin<T: Copy, A, F: FnOnce(T) -> (T, A)>(lent: &mut T, callee: F) -> A
     requires { F.pre callee lent.old }
     ensures { F.post callee lent.old (lent.new, result) }
@@ -50,10 +80,7 @@ pub fn session_start(s: &mut Session, client: u8) -> u8
     ensures start_means { SessionView.StartMeans client (started s.new result) }
     ensures session_starts { SessionStarts s.old client result s.new }
 {
-    let t = session::start(client);
-    let next = t.session;
-    *s = next;
-    t.answer
+    answer(s.start(client))
 }
 
 // Refusals 11, 1, 10, 9.
@@ -64,10 +91,7 @@ pub fn session_invoke(s: &mut Session, operations: Operations, out: &mut [u8]) -
     ensures invoke_means { SessionView.Held s.old → SessionView.InvokeMeans s.old operations out.old (submitted s.new result) out.new }
     ensures session_invokes { SessionInvokes s.old operations out.old result s.new out.new }
 {
-    let t = session::invoke(*s, operations, out);
-    let next = t.session;
-    *s = next;
-    t.sent
+    s.invoke(operations, out).into()
 }
 
 // Refusals 11, 7.
@@ -78,10 +102,7 @@ pub fn session_retry(s: &mut Session, number: u16, out: &mut [u8]) -> Sent
     ensures retry_means { SessionView.Held s.old → SessionView.RetryMeans s.old number out.old (submitted s.new result) out.new }
     ensures session_retries { SessionRetries s.old number out.old result s.new out.new }
 {
-    let t = session::retry(*s, number, out);
-    let next = t.session;
-    *s = next;
-    t.sent
+    s.retry(number, out).into()
 }
 
 // Refusals 11, 1, 2, 7, 8. "A Response step has no out area."
@@ -91,10 +112,7 @@ pub fn session_response(s: &mut Session, frame: &[u8]) -> Reply
     ensures response_means { SessionView.Held s.old → SessionView.ResponseMeans s.old frame.now (responded s.new result) }
     ensures session_responds { SessionResponds s.old frame.now result s.new }
 {
-    let t = session::response(*s, frame);
-    let next = t.session;
-    *s = next;
-    t.reply
+    s.response(frame).into()
 }
 
 // ---- A board
@@ -105,10 +123,7 @@ pub fn board_start(b: &mut Board, n: u8, m: u8, own: u8) -> u8
     ensures start_means { BoardView.StartMeans n m own (board_started b.new result) }
     ensures board_starts { BoardStarts b.old n m own result b.new }
 {
-    let t = board::start(n, m, own);
-    let next = t.board;
-    *b = next;
-    t.answer
+    answer(b.start(n, m, own))
 }
 
 // Refusals 11, 1, 2, then Submit: 3, 4, 8, 5; Forward: 4, 8; ExecNotif and Executed: 6, 7, 8.
@@ -119,14 +134,7 @@ pub fn board_step(b: &mut Board, frame: &[u8], out: &mut [u8]) -> Stepped
     ensures step_means { BoardView.Held b.old → BoardView.StepMeans b.old frame.now out.old (board_stepped b.new result) out.new }
     ensures board_steps { BoardSteps b.old frame.now out.old result b.new out.new }
 {
-    let t = board::step(*b, frame, out);
-    let next = t.board;
-    *b = next;
-    Stepped {
-        answer: t.answer,
-        frames: t.frames,
-        bytes: t.bytes,
-    }
+    b.step(frame, out).into()
 }
 
 // ---- A shard group
@@ -137,10 +145,7 @@ pub fn shard_start(s: &mut Shard, m: u8, own: u8) -> u8
     ensures start_means { ShardView.StartMeans m own (shard_started s.new result) }
     ensures shard_starts { ShardStarts s.old m own result s.new }
 {
-    let t = shard::start(m, own);
-    let next = t.shard;
-    *s = next;
-    t.answer
+    answer(s.start(m, own))
 }
 
 // Refusals 11, 1, 2, 7, 4, 8.
@@ -151,12 +156,8 @@ pub fn shard_step(s: &mut Shard, frame: &[u8], out: &mut [u8]) -> Stepped
     ensures step_means { ShardView.Held s.old → ShardView.StepMeans s.old frame.now out.old (shard_stepped s.new result) out.new }
     ensures shard_steps { ShardSteps s.old frame.now out.old result s.new out.new }
 {
-    let t = shard::step(*s, frame, out);
-    let next = t.shard;
-    *s = next;
-    Stepped {
-        answer: t.answer,
-        frames: t.frames,
-        bytes: t.bytes,
-    }
+    // a step that is taken sends one frame
+    s.step(frame, out)
+        .map(|bytes| send::Sent { frames: 1, bytes })
+        .into()
 }

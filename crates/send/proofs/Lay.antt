@@ -1,12 +1,11 @@
 -- Frames laid one behind the other: a turn of the loop lays what is sent next behind what was sent.
 -- Assumes nothing.
-use mathlib.Core.Path.{◌≡◌, refl, sym, ap, ◌∙◌}
-use mathlib.Core.Bool.{Bool, true, false, ◌&&◌}
+use mathlib.Core.Path.{◌≡◌, sym, ap, ◌∙◌}
+use mathlib.Core.Bool.{true, false}
 use mathlib.Core.List.{List, [], ◌∷◌, ◌++◌}
 use Prim.Native.Nat.{ℕ, suc, ◌+◌, ◌≤◌, ◌<◌}
 use native.Mathlib.Omega.{arith}
-use lib.ListN.{length, take, drop, length-append, length-drop}
-use lib.Dec.{leb}
+use lib.ListN.{length, drop, length-append, length-drop}
 use borrow.Author.Tests.{lt-ltb, le-ltb}
 use Rattle.rules.specs.Lists.{If◌then◌else◌}
 use Rattle.frames.specs.declared.Item.{Item}
@@ -15,9 +14,8 @@ use Rattle.frames.specs.Frames.{frame_bytes, written_of, laid_of, end_of, laid_b
 use Rattle.frames.proofs.Puts.{writes, lays}
 use Rattle.frames.proofs.Behind.{ends_behind, lays_behind}
 use Rattle.entry.specs.declared.Entry.{Entry}
-use Rattle.entry.specs.declared.Part.{Part}
-use Rattle.entry.specs.Model.{in_mask, part_on}
-use Rattle.send.specs.Model.{bytes_of, laid, count_in, forward_frame, backward_of, append_frame, goes, append_at, appends_to, onward_of, send_parts}
+use Rattle.send.specs.declared.Sent.{Sent}
+use Rattle.send.specs.Model.{Sends, bytes_of, laid, forward_frame, backward_of, append_frame, goes, append_at, appends_to, onward_of, send_parts}
 use Rattle.send.proofs.Room.{Fits, bytes_one, to_yes, to_no, bytes_yes, appends_room, part_few}
 
 -- ---- One frame
@@ -37,58 +35,43 @@ module _ (f : Frame) (l : List ℕ) (h : Fits f) (r : 68 ≤ length l) where
 
 -- ---- One behind the other
 
--- a turn: frames and bytes are what was sent up to `last`, cur is the out area; then the frame to the next shard goes or not
-module _ (left count : ℕ) (items : List Item) (m ind : ℕ) (masks : List ℕ) (last : ℕ) (l cur : List ℕ) (frames bytes : ℕ)
-    (four : length items ≡ 4) (room : 68 ≤ length l)
-    (ef : frames ≡ length (appends_to left count items m ind masks last))
-    (eb : bytes ≡ length (bytes_of (appends_to left count items m ind masks last)))
-    (el : cur ≡ laid (appends_to left count items m ind masks last) l)
-    (shard : ℕ) (next : shard ≡ suc last) (going remains : Bool) (p : Part) (f : Frame) (sn : ℕ)
-    (ep : p ≡ part_on m shard count items) (er : remains ≡ in_mask left shard) (eg : going ≡ (remains && leb 1 p.count))
-    (es : sn ≡ (If going then count_in shard (take (ind + 1) masks) else 0)) (e_f : f ≡ append_frame shard ind sn p) where
+-- a turn: `sent` counts what was sent to the shards up to `last`, and `now` is the out area; then the frame to the next shard goes or not
+module _ (left count : ℕ) (items : List Item) (m ind : ℕ) (masks : List ℕ) (last : ℕ) (before now : List ℕ) (sent : Sent)
+    (four : length items ≡ 4) (room : 68 ≤ length before) (s : Sends (appends_to left count items m ind masks last) before now sent) where
   abbrev S : ℕ → List Frame
   S = appends_to left count items m ind masks
 
-  turn_goes : going ≡ goes left count items m (suc last)
-  unfolding goes
-  turn_goes = eg ∙ rw (er, ep, next)
+  abbrev next : Frame
+  next = append_at count items m ind masks (suc last)
 
-  turn_frame : going ≡ true → f ≡ append_at count items m ind masks (suc last)
-  unfolding append_at If◌then◌else◌
-  turn_frame h = e_f ∙ rw (es, h, ep, next)
+  next_few : next.list.count ≤ 4
+  unfolding append_at append_frame
+  next_few = part_few left count items m ind masks (suc last) four
 
-  turn_few : f.count ≤ 4
-  unfolding append_frame
-  turn_few = rw (e_f, ep) (part_few left count items m ind masks shard four)
+  -- the out area is as long as it was
+  pub same_room : length now ≡ length before
+  same_room = ap length s.out ∙ laid_length (S last) before (omega (arith, appends_room left count items m ind masks last four))
 
-  abbrev Turned : Bool → Type 0
-  Turned t =
-      (frames + (If t then 1 else 0) ≡ length (S (suc last)))
-      × ((If t then end_of f bytes (length cur) else bytes) ≡ length (bytes_of (S (suc last))))
-      × ((If t then laid_behind f bytes cur else cur) ≡ laid (S (suc last)) l)
-
-  turn_at_lem : (t : Bool) → t ≡ going → Turned t
-  unfolding laid If◌then◌else◌
-  turn_at_lem true h =
-      let g = sym turn_goes ∙ sym h in
+  sends_next : goes left count items m (suc last) ≡ true → (f : Frame) → f ≡ next
+      → Sends (S (suc last)) before (laid_behind f sent.bytes now) (record { frames = sent.frames + 1; bytes = end_of f sent.bytes (length now) })
+  unfolding laid
+  sends_next g f e =
       let b : List ℕ = bytes_of (S last) in
-      let q : frame_bytes f ≡ frame_bytes (append_at count items m ind masks (suc last)) = ap frame_bytes (turn_frame (sym h)) in
-      let k : bytes_of (S (suc last)) ≡ b ++ frame_bytes f = bytes_yes left count items m ind masks last g ∙ ap (λ (x : List ℕ). b ++ x) (sym q) in
-      let r : length (b ++ frame_bytes f) ≤ length l = rw (← k) (omega (arith, appends_room left count items m ind masks (suc last) four)) in
-      let n : length cur ≡ length l = ap length el ∙ laid_length (S last) l (omega (arith, appends_room left count items m ind masks last four)) in (
-        omega (arith, ef, ap length (to_yes left count items m ind masks last g), length-append (S last) (append_at count items m ind masks (suc last) ∷ [])),
-        rw (n, eb, k) (ends_behind f b l turn_few r),
-        rw (el, eb, k) (lays_behind f b l turn_few r),
-      )
-  turn_at_lem false h =
-      let g = sym turn_goes ∙ sym h in (
-        omega (arith, ef, ap length (to_no left count items m ind masks last g)),
-        rw (to_no left count items m ind masks last g) eb,
-        rw (to_no left count items m ind masks last g) el,
-      )
+      let k : bytes_of (S (suc last)) ≡ b ++ frame_bytes next = bytes_yes left count items m ind masks last g in
+      let r : length (b ++ frame_bytes next) ≤ length before = rw (← k) (omega (arith, appends_room left count items m ind masks (suc last) four)) in
+      rw e
+      (record {
+        frames = omega (arith, s.frames, ap length (to_yes left count items m ind masks last g), length-append (S last) (next ∷ []));
+        bytes = rw (same_room, s.bytes, k) (ends_behind next b before next_few r);
+        out = rw (s.out, s.bytes, k) (lays_behind next b before next_few r);
+      })
 
-  pub turned : Turned going
-  turned = turn_at_lem going refl
+  pub turn_sends : (shard : ℕ) → shard ≡ suc last → goes left count items m shard ≡ true → (f : Frame) → f ≡ append_at count items m ind masks shard
+      → Sends (S shard) before (laid_behind f sent.bytes now) (record { frames = sent.frames + 1; bytes = end_of f sent.bytes (length now) })
+  turn_sends shard n g f e = rw n (sends_next (rw n at g) f (rw n at e))
+
+  pub turn_skips : (shard : ℕ) → shard ≡ suc last → goes left count items m shard ≡ false → Sends (S shard) before now sent
+  turn_skips shard n g = rw n (rw (to_no left count items m ind masks last (rw n at g)) s)
 
 -- ---- The four ways out
 

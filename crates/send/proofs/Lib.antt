@@ -1,5 +1,5 @@
 pub mod Count
 pub mod Room
-pub mod Lay
 pub mod Meaning
 pub mod Ruled
+pub mod Lay

@@ -103,8 +103,8 @@ map-append f (x ∷ xs) ys = ap (λ l. f x ∷ l) (map-append f xs ys)
 module _ (e : Entry) (m ind : ℕ) (lo : 1 ≤ m) (h : EntryHeld m e) where
   back_at : (t : Bool)
       → M.Sends
-      ((If t then record { head = Response e.client e.number; count = (reads_held m e).count; items = (reads_held m e).items }
-      else record { head = Executed ind; count = (reads_held m e).count; items = (reads_held m e).items })
+      ((If t then record { head = Response e.client e.number; list = reads_held m e }
+      else record { head = Executed ind; list = reads_held m e })
       ∷ [])
       ((If t then response (view_entry m e).write.client (view_entry m e).write.number (view_entry m e).reads else executed ind (view_entry m e).reads) ∷ [])
   unfolding If◌then◌else◌ meaning view_entry write_of

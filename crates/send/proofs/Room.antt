@@ -4,10 +4,10 @@
 use mathlib.Core.Path.{◌≡◌, refl, sym, ap, ◌∙◌}
 use mathlib.Core.Bool.{Bool, true, false, ◌&&◌}
 use mathlib.Core.List.{List, [], ◌∷◌, ◌++◌, append_assoc, append-nil}
-use Prim.Native.Nat.{ℕ, zero, suc, ◌+◌, ◌*◌, ◌≤◌}
+use Prim.Native.Nat.{ℕ, zero, suc, ◌+◌, ◌-◌, ◌*◌, ◌≤◌}
 use native.Mathlib.Nat.{mul-suc}
 use native.Mathlib.Omega.{arith}
-use lib.ListN.{length, take, length-append}
+use lib.ListN.{length, take, replicate, length-append, length-replicate}
 use lib.Dec.{leb, ltb, eqb}
 use borrow.Author.Tests.{leb-true, ltb-true, ltb-false, eqb-true, eqb-false}
 use Rattle.rules.specs.Lists.{If◌then◌else◌}
@@ -16,7 +16,7 @@ use Rattle.frames.specs.declared.Item.{Item}
 use Rattle.frames.specs.declared.Shape.{Shape}
 use Rattle.frames.specs.declared.Head.{Head}
 use Rattle.frames.specs.declared.Frame.{Frame}
-use Rattle.frames.specs.Frames.{is_bad, frame_bytes, framed, field_bytes, list_bytes, item_bytes, items_bytes, shape_of, width, len_of}
+use Rattle.frames.specs.Frames.{no_item, is_bad, frame_bytes, framed, field_bytes, list_bytes, item_bytes, items_bytes, shape_of, width, len_of}
 use Rattle.frames.proofs.Puts.{length_item, length_framed}
 use Rattle.entry.specs.declared.Entry.{Entry}
 use Rattle.entry.specs.Model.{shard_number, is_on, chosen, beside, part_on, reads_held, answered_of, in_mask}
@@ -34,16 +34,16 @@ items_most shape (suc n) (x ∷ xs) =
 head_length : (h : Head) → length (framed 0 h 0 []) ≡ len_of h 0 + 2
 head_length h = length_framed 0 h 0 [] (omega arith)
 
-pub frame_most : (f : Frame) → length (frame_bytes f) ≤ len_of f.head f.count + 2
+pub frame_most : (f : Frame) → length (frame_bytes f) ≤ len_of f.head f.list.count + 2
 unfolding frame_bytes
 frame_most f =
-    by (λ (l : List ℕ). length l ≤ len_of f.head f.count + 2) (is_bad f.head) (λ t. omega arith)
+    by (λ (l : List ℕ). length l ≤ len_of f.head f.list.count + 2) (is_bad f.head) (λ t. omega arith)
     (λ t.
     omega (
       arith,
       head_length f.head,
-      items_most (shape_of f.head) f.count f.items,
-      length-append (field_bytes f.head) (list_bytes (shape_of f.head) f.count f.items),
+      items_most (shape_of f.head) f.list.count f.list.items,
+      length-append (field_bytes f.head) (list_bytes (shape_of f.head) f.list.count f.list.items),
       length-append (field_bytes f.head) (0 ∷ []),
     ))
 
@@ -165,18 +165,23 @@ module _ (left count : ℕ) (items : List Item) (m ind : ℕ) (masks : List ℕ)
 -- ---- The other frames
 
 pub record Fits (f : Frame) : Type 0 where
-  pub few : f.count ≤ 4
+  pub few : f.list.count ≤ 4
   pub short : length (frame_bytes f) ≤ 68
 
-short : (f : Frame) → f.count ≤ 4 → len_of f.head f.count ≤ 66 → Fits f
+short : (f : Frame) → f.list.count ≤ 4 → len_of f.head f.list.count ≤ 66 → Fits f
 short f h k = record { few = h; short = omega (arith, frame_most f) }
 
 pub forward_fits : (e : Entry) (floor ind : ℕ) → Fits (forward_frame e floor ind)
 unfolding forward_frame
 forward_fits e floor ind = short _ (omega arith) (omega arith)
 
-pub backward_fits : (e : Entry) (m own ind : ℕ) → length e.reads ≡ 4 → Fits (backward_of e m own ind)
+-- the four slots of a part hold its list
+pub backward_fits : (e : Entry) (m own ind : ℕ) → length (backward_of e m own ind).list.items ≡ 4 → Fits (backward_of e m own ind)
 unfolding backward_of reads_held
-backward_fits e m own ind h =
-    let few = beside_few (answered_of m e.remaining) (take e.count e.items) e.reads in
-    by Fits (eqb own 1) (λ t. short _ (omega arith) (omega arith)) (λ t. short _ (omega arith) (omega arith))
+backward_fits e m own ind =
+    let reads : List Item = beside (answered_of m e.remaining) (take e.count e.items) e.reads in
+    let slots = length-append reads (replicate (4 - length reads) no_item) in
+    let rest = length-replicate (4 - length reads) no_item in
+    by (λ (f : Frame). length f.list.items ≡ 4 → Fits f) (eqb own 1)
+    (λ t h. let few : length reads ≤ 4 = omega arith in short _ few (omega arith))
+    (λ t h. let few : length reads ≤ 4 = omega arith in short _ few (omega arith))

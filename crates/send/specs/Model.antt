@@ -5,11 +5,11 @@ use Rattle.std.specs.Prelude.{◌≡◌, Bool, ◌&&◌, List, [], ◌∷◌, �
 use Rattle.rules.specs.Lists.{If◌then◌else◌, ◌<?◌, ◌≤?◌, ◌=?◌}
 use Rattle.rules.specs.Outcomes.{least_out}
 use Rattle.frames.specs.declared.Item.{Item}
+use Rattle.frames.specs.declared.Items.{Items}
 use Rattle.frames.specs.declared.Frame.{Frame}
 use Rattle.frames.specs.declared.Head.TheVariants.{Forward, ShardAppend, Executed, Response}
-use Rattle.frames.specs.Frames.{end_of, laid_behind, frames_bytes}
+use Rattle.frames.specs.Frames.{frames_bytes}
 use Rattle.entry.specs.declared.Entry.{Entry}
-use Rattle.entry.specs.declared.Part.{Part}
 use Rattle.send.specs.declared.Sent.{Sent}
 use Rattle.entry.specs.Model.{in_mask, part_on, reads_held}
 
@@ -29,12 +29,6 @@ pub record Sends (fs : List Frame) (before after : List ℕ) (r : Sent) : Type 0
   pub bytes : r.bytes ≡ length (bytes_of fs)
   pub out : after ≡ laid fs before
 
--- one frame more was written behind what s counts, or nothing
-pub record Goes (going : Bool) (f : Frame) (s : Sent) (before after : List ℕ) (r : Sent) : Type 0 where
-  pub frames : r.frames ≡ s.frames + (If going then 1 else 0)
-  pub bytes : r.bytes ≡ (If going then end_of f s.bytes (length before) else s.bytes)
-  pub out : after ≡ (If going then laid_behind f s.bytes before else before)
-
 -- ---- The frames
 
 -- how many of some entries, each given by the set of shards that it touches, touch a shard
@@ -45,15 +39,15 @@ count_in shard (mask ∷ masks) = (If in_mask mask shard then 1 else 0) + count_
 -- no frame has more than four items
 unfoldable pub forward_frame : Entry → ℕ → ℕ → Frame
 forward_frame e floor ind =
-    record { head = Forward ind e.client e.number (min floor e.number); count = min e.count 4; items = e.items }
+    record { head = Forward ind e.client e.number (min floor e.number); list = record { count = min e.count 4; items = e.items } }
 
 unfoldable pub backward_of : Entry → ℕ → ℕ → ℕ → Frame
 backward_of e m own ind =
-    If own =? 1 then record { head = Response e.client e.number; count = (reads_held m e).count; items = (reads_held m e).items } else
-    record { head = Executed ind; count = (reads_held m e).count; items = (reads_held m e).items }
+    If own =? 1 then record { head = Response e.client e.number; list = reads_held m e } else
+    record { head = Executed ind; list = reads_held m e }
 
-unfoldable pub append_frame : ℕ → ℕ → ℕ → Part → Frame
-append_frame shard ind sn p = record { head = ShardAppend shard ind sn; count = p.count; items = p.items }
+unfoldable pub append_frame : ℕ → ℕ → ℕ → Items → Frame
+append_frame shard ind sn p = record { head = ShardAppend shard ind sn; list = p }
 
 -- the shard remains, and has an operation
 unfoldable pub goes : ℕ → ℕ → List Item → ℕ → ℕ → Bool

@@ -9,7 +9,7 @@ use Rattle.rules.specs.Transactions.{Operation, placed}
 use Rattle.rules.specs.Board.{fits}
 use Rattle.frames.specs.declared.Item.{Item}
 use Rattle.frames.specs.View.{as_placed, placed_of, reads_of, operation_items, filled}
-use Rattle.frames.proofs.Items.{filled_length, filled_take, operation_back, operation_place, operations_length}
+use Rattle.frames.proofs.Slots.{filled_length, filled_take, operation_back, operation_place, operations_length}
 use Rattle.entry.specs.Model.{fits_of}
 use Rattle.entry.proofs.Meaning.{fits_view}
 

@@ -6,3 +6,4 @@ pub mod Replies
 pub mod Promises
 pub mod Ruled
 pub mod Determined
+pub mod Tells

@@ -18,7 +18,7 @@ use Rattle.rules.proofs.Lists.{and, and_l, and_r, T_false, nothing, either}
 use Rattle.frames.specs.declared.Item.{Item}
 use Rattle.frames.specs.Frames.{ok_item, ok_from, ok_items}
 use Rattle.frames.specs.View.{operation_item, operation_items, filled}
-use Rattle.frames.proofs.Items.{item_rules}
+use Rattle.frames.proofs.Slots.{item_rules}
 use Rattle.frames.proofs.Round.{enough}
 use Rattle.session.specs.declared.Asked.{Asked}
 use Rattle.session.specs.declared.Operations.{Operations}

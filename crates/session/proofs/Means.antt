@@ -71,7 +71,7 @@ pub record SendsOne (out : ℕ) (f : Frame) : Type 0 where
   pub frame : F.Frame
   pub is : f ≡ record_of frame
   pub rules : T (obeys frame)
-  pub few : f.count ≤ 4
+  pub few : f.list.count ≤ 4
   pub room : 68 ≤ out
 
 abbrev pub Sends : ℕ → Option Frame → Type 0
@@ -82,7 +82,7 @@ module _ (s : Session) (number : ℕ) (os : List Operation) where
   -- Submit as it lies is the record of the rules' Submit
   submit_record : submit_frame s number (length os) (filled 4 (operation_items 0 os)) ≡ record_of (R.submit_of (view_session s) number os)
   unfolding submit_frame R.submit_of view_session
-  submit_record = λ i. record { head = Submit s.client number (sym (smallest_means s.window) i); count = length os; items = filled 4 (operation_items 0 os) }
+  submit_record = λ i. record { head = Submit s.client number (sym (smallest_means s.window) i); list = record { count = length os; items = filled 4 (operation_items 0 os) } }
 
   sending_means : T (obeys (R.submit_of (view_session s) number os)) →
       view_call (sending s number (length os) (filled 4 (operation_items 0 os))) ≡ taken (view_session s) (R.submit_of (view_session s) number os ∷ [])

@@ -6,6 +6,8 @@ use mathlib.Core.List.{List}
 use mathlib.Core.Option.{Option, none, some}
 use Prim.Native.Nat.{ℕ}
 use lib.ListN.{length}
+use Rattle.std.proofs.Common.{Result}
+use Rattle.refusal.specs.declared.Refusal.{Refusal}
 use Rattle.frames.specs.declared.Frame.{Frame}
 use Rattle.frames.specs.declared.Item.{Item}
 use Rattle.frames.specs.declared.Head.{Head}
@@ -15,13 +17,13 @@ use Rattle.frames.specs.View.{Bytes}
 use Rattle.rules.proofs.Lists.{by}
 use Rattle.session.specs.declared.Operations.{Operations}
 use Rattle.session.specs.declared.Session.{Session}
-use Rattle.session.specs.declared.Started.{Started}
-use Rattle.session.specs.declared.Submitted.{Submitted}
-use Rattle.session.specs.declared.Responded.{Responded}
-use Rattle.session.specs.Model.{started_of, Call, refusal, sending, given_of, given, laid, taking, invoking, retrying, declined_of, heard_of, by_head, invoked_of, invoke_out, retried_of, retry_out, responded_of}
+use Rattle.session.specs.declared.Submission.{Submission}
+use Rattle.session.specs.declared.Answer.{Answer}
+use Rattle.session.specs.Model.{Started, started_shown, Submitted, submitted_shown, Responded, responded_shown, started_of, Call, refusal, sending, given_of, given, laid, taking, invoking, retrying, declined_of, heard_of, by_head, invoked_of, invoke_out, retried_of, retry_out, responded_of}
 use Rattle.session.specs.View.{Held, Sized, StartMeans, InvokeMeans, RetryMeans, ResponseMeans}
 use Rattle.session.proofs.Means.{start_means, invoke_means, retry_means}
 use Rattle.session.proofs.Replies.{response_means}
+use Rattle.session.proofs.Tells.{started_told, submitted_told, responded_told}
 
 -- ---- What is promised
 
@@ -44,19 +46,21 @@ response_promised s bytes b r p = (p, λ h. rw p (response_means s bytes h b))
 
 -- ---- A promise admits one outcome
 
-pub one_start : (client : ℕ) (r t : Started) → r ≡ started_of client → t ≡ started_of client → r ≡ t
-one_start client r t p q = p ∙ sym q
+pub one_start : (client : ℕ) (a b : Session) (q r : Result (Unit {0}) Refusal) → started_shown a q ≡ started_of client → started_shown b r ≡ started_of client → (a ≡ b) × (q ≡ r)
+one_start client a b q r e d = started_told a b q r (e ∙ sym d)
 
-pub one_invoke : (s : Session) (ops : Operations) (out : List ℕ) (r t : Submitted) (left rest : List ℕ) → (r ≡ invoked_of s ops out) × (left ≡ invoke_out s ops out) →
-    (t ≡ invoked_of s ops out) × (rest ≡ invoke_out s ops out) → (r ≡ t) × (left ≡ rest)
-one_invoke s ops out r t left rest p q = (p.0 ∙ sym q.0, p.1 ∙ sym q.1)
+pub one_invoke : (s : Session) (ops : Operations) (out : List ℕ) (a b : Session) (q r : Result Submission Refusal) (left rest : List ℕ) →
+    (submitted_shown a q ≡ invoked_of s ops out) × (left ≡ invoke_out s ops out) → (submitted_shown b r ≡ invoked_of s ops out) × (rest ≡ invoke_out s ops out) →
+    (a ≡ b) × (q ≡ r) × (left ≡ rest)
+one_invoke s ops out a b q r left rest e d = let told = submitted_told a b q r (e.0 ∙ sym d.0) in (told.0, told.1, e.1 ∙ sym d.1)
 
-pub one_retry : (s : Session) (number : ℕ) (out : List ℕ) (r t : Submitted) (left rest : List ℕ) → (r ≡ retried_of s number out) × (left ≡ retry_out s number out) →
-    (t ≡ retried_of s number out) × (rest ≡ retry_out s number out) → (r ≡ t) × (left ≡ rest)
-one_retry s number out r t left rest p q = (p.0 ∙ sym q.0, p.1 ∙ sym q.1)
+pub one_retry : (s : Session) (number : ℕ) (out : List ℕ) (q r : Result Submission Refusal) (left rest : List ℕ) →
+    (submitted_shown s q ≡ retried_of s number out) × (left ≡ retry_out s number out) → (submitted_shown s r ≡ retried_of s number out) × (rest ≡ retry_out s number out) →
+    (q ≡ r) × (left ≡ rest)
+one_retry s number out q r left rest e d = ((submitted_told s s q r (e.0 ∙ sym d.0)).1, e.1 ∙ sym d.1)
 
-pub one_response : (s : Session) (bytes : List ℕ) (r t : Responded) → r ≡ responded_of s bytes → t ≡ responded_of s bytes → r ≡ t
-one_response s bytes r t p q = p ∙ sym q
+pub one_response : (s : Session) (bytes : List ℕ) (a b : Session) (q r : Result Answer Refusal) → responded_shown a q ≡ responded_of s bytes → responded_shown b r ≡ responded_of s bytes → (a ≡ b) × (q ≡ r)
+one_response s bytes a b q r e d = responded_told a b q r (e ∙ sym d)
 
 -- ---- A refusal changes nothing, whatever the session's bits
 
@@ -136,4 +140,4 @@ head_declined s (Response client number) count items = heard_declined s client n
 pub response_still : (s : Session) (bytes : List ℕ) → ((responded_of s bytes).reply.answer ≡ 0 → ⊥) → responded_of s bytes ≡ declined_of s (responded_of s bytes).reply.answer
 unfolding responded_of
 response_still s bytes =
-    by (Declined s) _ (λ t. declined_declined s 11) (λ t. head_declined s (read_frame bytes).head (read_frame bytes).count (read_frame bytes).items)
+    by (Declined s) _ (λ t. declined_declined s 11) (λ t. head_declined s (read_frame bytes).head (read_frame bytes).list.count (read_frame bytes).list.items)

@@ -31,8 +31,7 @@ use Rattle.window.specs.View.{view_window, slot_for}
 use Rattle.window.proofs.Items.{some_operations}
 use Rattle.window.proofs.Means.{kept_means, answered_means, answered_held}
 use Rattle.session.specs.declared.Session.{Session}
-use Rattle.session.specs.declared.Responded.{Responded}
-use Rattle.session.specs.Model.{with_window, declined_of, heard_of, by_head, responded_of}
+use Rattle.session.specs.Model.{Responded, with_window, declined_of, heard_of, by_head, responded_of}
 use Rattle.session.specs.View.{view_session, Held, view_reply, ReplyMeans, ResponseMeans}
 use Rattle.session.proofs.Fits.{fits_means}
 use Rattle.session.proofs.Means.{slot_count}
@@ -116,11 +115,11 @@ head_means s h (Executed log-number) count items few = declined_means s h 2 _ _ 
 head_means s h (Response client number) count items few = heard_means s h client number count items few
 
 frame_means : (s : Session) → Held s → (bytes : List ℕ) → Bytes bytes →
-    Hears (by_head s (read_frame bytes).head (read_frame bytes).count (read_frame bytes).items) (R.read_step (view_session s) (meaning (read_frame bytes)))
+    Hears (by_head s (read_frame bytes).head (read_frame bytes).list.count (read_frame bytes).list.items) (R.read_step (view_session s) (meaning (read_frame bytes)))
 unfolding meaning bad_frame
 frame_means s h bytes b =
-    reads bytes b (λ f. Hears (by_head s f.head f.count f.items) (R.read_step (view_session s) (meant f.head f.count f.items)))
-    (head_means s h Bad 0 bad_frame.items (omega arith)) (λ f g. head_means s h f.head f.count f.items (enough 0 f.count f.items (items_of_lem f g.right)))
+    reads bytes b (λ f. Hears (by_head s f.head f.list.count f.list.items) (R.read_step (view_session s) (meant f.head f.list.count f.list.items)))
+    (head_means s h Bad 0 bad_frame.list.items (omega arith)) (λ f g. head_means s h f.head f.list.count f.list.items (enough 0 f.list.count f.list.items (items_of_lem f g.right)))
 
 same_hears : (r t : Responded) (p q : R.Reply) → r ≡ t → p ≡ q → Hears t q → Hears r p
 same_hears r t p q e d m = rw (e, d) m

@@ -14,8 +14,7 @@ use Rattle.rules.proofs.Lists.{by}
 use Rattle.window.specs.Model as W
 use Rattle.window.proofs.Ruled.{fresh_has_none}
 use Rattle.session.specs.declared.Session.{Session}
-use Rattle.session.specs.declared.Started.{Started}
-use Rattle.session.specs.Model.{started_of, sending, retrying}
+use Rattle.session.specs.Model.{Started, unstarted, started_of, sending, retrying}
 
 -- ---- start
 
@@ -29,6 +28,23 @@ pub none_outstanding : (client number : ℕ) → W.is_outstanding (started_of cl
 unfolding started_of
 none_outstanding client number =
     by (λ (r : Started). W.is_outstanding r.session.window.slots number ≡ false) (ltb 15 client) (λ t. fresh_has_none number) (λ t. fresh_has_none number)
+
+-- ---- unstarted
+
+-- a session that takes calls
+pub unstarted_takes_none : unstarted.started ≡ false
+unfolding unstarted
+unstarted_takes_none = refl
+
+-- a number outstanding in it
+pub unstarted_has_none : (number : ℕ) → W.is_outstanding unstarted.window.slots number ≡ false
+unfolding unstarted
+unstarted_has_none number = fresh_has_none number
+
+-- another session than the one that a refused start leaves
+pub refused_leaves : (client : ℕ) → 16 ≤ client → (started_of client).session ≡ unstarted
+unfolding unstarted started_of If◌then◌else◌
+refused_leaves client h = rw (lt-ltb 15 client (omega arith))
 
 -- ---- retry
 

@@ -1,115 +1,141 @@
 -- One law for each way out of a call, from what its callees ensure. Assumes nothing.
 use mathlib.Core.Path.{◌≡◌, refl, sym, ap, ◌∙◌}
-use mathlib.Core.Bool.{Bool, true, false, not}
+use mathlib.Core.Bool.{true, false, not, ◌&&◌}
 use mathlib.Core.List.{List, [], ◌∷◌}
 use mathlib.Core.Logic.{⊎_elim}
 use Prim.Native.Nat.{ℕ, ◌≤◌, ◌<◌}
-use borrow.Author.Tests.{lt-ltb, le-ltb, le-leb, lt-leb, eq-eqb, ne_eqb}
+use borrow.Author.Tests.{le-leb, lt-leb, eq-eqb, ne_eqb}
 use native.Mathlib.Omega.{arith}
 use types.Run.{OneOf}
 use denote.Enum.Declared.{tag_of}
+use lib.Dec.{leb}
 use lib.ListN.{length}
+use Rattle.std.proofs.Common.{Some, None, Ok, Err}
 use Rattle.rules.specs.Lists.{If◌then◌else◌}
+use Rattle.rules.specs.Answers.{breaks_rule}
+use Rattle.rules.specs.Outcomes.{unusable}
+use Rattle.refusal.specs.declared.Refusal.{Refusal}
+use Rattle.refusal.specs.declared.Refusal.TheVariants.{NotForMe, TooLate, DoesNotFit}
+use Rattle.refusal.specs.Number.{number_of}
+use Rattle.refusal.proofs.Tells.{number_not_done}
 use Rattle.frames.specs.declared.Item.{Item}
+use Rattle.frames.specs.declared.Items.{Items}
 use Rattle.frames.specs.declared.Head.{Head}
 use Rattle.frames.specs.declared.Head.TheVariants.{Bad, Submit, Forward, ShardAppend, ExecNotif, Executed, Response}
 use Rattle.frames.specs.contracts.Head as H
 use Rattle.frames.specs.declared.Frame.{Frame}
-use Rattle.frames.specs.Frames.{ok_items, read_frame, written_of, laid_of}
-use Rattle.window.specs.declared.Least.{Least}
-use Rattle.window.specs.declared.Slot.{Slot}
-use Rattle.window.specs.declared.Invoked.{Invoked}
-use Rattle.window.specs.Model.{smallest_of, least_of}
+use Rattle.frames.specs.Frames.{ok_items, read_frame, laid_of}
+use Rattle.entry.specs.Model.{fits_of}
+use Rattle.window.specs.declared.Window.{Window}
+use Rattle.window.specs.Model.{smallest_of}
 use Rattle.window.specs.Model as W
+use Rattle.window.proofs.Kept.{list_none, list_some}
 use Rattle.session.specs.declared.Session.{Session}
 use Rattle.session.specs.declared.Operations.{Operations}
-use Rattle.session.specs.declared.Sent.{Sent}
-use Rattle.session.specs.declared.Submitted.{Submitted}
-use Rattle.session.specs.Model.{items_of, ok_asked, Call, refusal, sending, refused_of, given, laid, with_window, taking, invoking, retrying, submit_frame, sent_of, declined_of, by_head, responded_of}
-
--- Submit was written with the smallest outstanding number as ack
-pub submit_sent : (s : Session) (number count : ℕ) (items : List Item) (out after : List ℕ) (least : Least) (bytes : ℕ) → least ≡ least_of s.window →
-    (bytes ≡ written_of (record { head = Submit s.client number least.number; count = count; items = items }) (length out))
-    × (after ≡ laid_of (record { head = Submit s.client number least.number; count = count; items = items }) out) →
-    (record { answer = 0; number = number; frames = 1; bytes = bytes } ≡ sent_of (submit_frame s number count items) number (length out))
-    × (after ≡ laid_of (submit_frame s number count items) out)
-unfolding submit_frame sent_of least_of
-submit_sent s number count items out after least bytes e h =
-    let frame : ℕ → Frame = λ ack. record { head = Submit s.client number ack; count = count; items = items } in
-    let ack : least.number ≡ smallest_of s.window = ap (λ (l : Least). l.number) e in (
-      (λ i. record { answer = 0; number = number; frames = 1; bytes = (h.0 ∙ ap (λ (k : ℕ). written_of (frame k) (length out)) ack) i }),
-      h.1 ∙ ap (λ (k : ℕ). laid_of (frame k) out) ack,
-    )
+use Rattle.session.specs.declared.Submission.{Submission}
+use Rattle.session.specs.Model.{list_of, ok_asked, Call, refusal, sending, given, laid, sent_shown, submitted_shown, with_window, taking, invoking, retrying, submit_frame, sent_of, responded_shown, declined_of, heard_of, by_head, responded_of}
 
 -- ---- What is given of a call
 
 module _ (s : Session) (out : List ℕ) (c : Call) where
-  pub call_refused : (r : Submitted) (answer : ℕ) → r ≡ refused_of s answer → c ≡ refusal s answer → (r ≡ given c out) × (out ≡ laid c out)
+  pub call_refused : (r : Refusal) → c ≡ refusal s (number_of r) → (submitted_shown s (Err r) ≡ given c out) × (out ≡ laid c out)
   unfolding given laid refusal
-  call_refused r answer e h = (e ∙ ap (λ (d : Call). given d out) (sym h), ap (λ (d : Call). laid d out) (sym h))
+  call_refused r h = (ap (λ (d : Call). given d out) (sym h), ap (λ (d : Call). laid d out) (sym h))
 
-  pub call_sent : (number count : ℕ) (items : List Item) (sent : Sent) (after : List ℕ) → c ≡ sending s number count items →
-      (sent ≡ sent_of (submit_frame s number count items) number (length out)) × (after ≡ laid_of (submit_frame s number count items) out) →
-      (record { session = s; sent = sent } ≡ given c out) × (after ≡ laid c out)
+  pub call_sent : (number count : ℕ) (items : List Item) (x : Submission) (after : List ℕ) → c ≡ sending s number count items →
+      (sent_shown (Ok x) ≡ sent_of (submit_frame s number count items) number (length out)) × (after ≡ laid_of (submit_frame s number count items) out) →
+      (submitted_shown s (Ok x) ≡ given c out) × (after ≡ laid c out)
   unfolding given laid sending sent_of
-  call_sent number count items sent after h e =
+  call_sent number count items x after h e =
       ((λ i. record { session = s; sent = e.0 i }) ∙ ap (λ (d : Call). given d out) (sym h), e.1 ∙ ap (λ (d : Call). laid d out) (sym h))
 
 -- ---- Invoke
 
 module _ (s : Session) (ops : Operations) (out : ℕ) where
-  pub invoke_not_started : not s.started ≡ true → invoking s ops out ≡ refusal s 11
+  pub invoke_unusable : unusable s.started out ≡ true → invoking s ops out ≡ refusal s 11
   unfolding invoking If◌then◌else◌
-  invoke_not_started n = rw n
+  invoke_unusable u = rw u
 
-  pub invoke_small : not s.started ≡ false → out < 68 → invoking s ops out ≡ refusal s 11
-  unfolding invoking If◌then◌else◌
-  invoke_small n h = rw (n, lt-ltb out 68 h)
+  -- what is made of a list
+  abbrev of_list : Items → Call
+  of_list list =
+      If not (leb 1 list.count && ok_items list.count list.items) then refusal s breaks_rule else
+      taking s list.count list.items (W.invoked_of s.window list.count list.items)
 
-  module _ (n : not s.started ≡ false) (h : 68 ≤ out) where
-    pub invoke_none : ops.count < 1 → invoking s ops out ≡ refusal s 1
-    unfolding invoking ok_asked If◌then◌else◌
-    invoke_none l = rw (n, le-ltb out 68 h, lt-leb 1 ops.count l)
+  module _ (u : unusable s.started out ≡ false) (list : Items) (e : list ≡ list_of ops) where
+    listed : invoking s ops out ≡ of_list list
+    unfolding invoking ok_asked list_of If◌then◌else◌
+    listed = rw u (ap of_list (sym e))
 
-    module _ (l : 1 ≤ ops.count) (items : List Item) (e : items ≡ items_of ops) (ok : Bool) (o : ok ≡ ok_items ops.count items) where
-      pub invoke_wrong : not ok ≡ true → invoking s ops out ≡ refusal s 1
-      unfolding invoking ok_asked If◌then◌else◌
-      invoke_wrong w = rw (n, le-ltb out 68 h, le-leb 1 ops.count l, ← e, ← o, w)
+    pub invoke_none : list.count < 1 → invoking s ops out ≡ refusal s 1
+    unfolding If◌then◌else◌
+    invoke_none l = listed ∙ rw (lt-leb 1 list.count l)
 
-      module _ (w : not ok ≡ false) (v : Invoked) (i : v ≡ W.invoked_of s.window ops.count items) where
-        pub invoke_full : (v.answer ≡ 0 → ⊥) → invoking s ops out ≡ refusal s v.answer
-        unfolding invoking ok_asked taking If◌then◌else◌
-        invoke_full d = rw (n, le-ltb out 68 h, le-leb 1 ops.count l, ← e, ← o, w, ← i, ne_eqb v.answer 0 d)
+    pub invoke_wrong : 1 ≤ list.count → ok_items list.count list.items ≡ false → invoking s ops out ≡ refusal s 1
+    unfolding If◌then◌else◌
+    invoke_wrong l w = listed ∙ rw (le-leb 1 list.count l, w)
 
-        pub invoke_goes : v.answer ≡ 0 → invoking s ops out ≡ sending (with_window v.window s) v.number ops.count items
-        unfolding invoking ok_asked taking If◌then◌else◌
-        invoke_goes d = rw (n, le-ltb out 68 h, le-leb 1 ops.count l, ← e, ← o, w, ← i, eq-eqb v.answer 0 d)
+    module _ (l : 1 ≤ list.count) (w : ok_items list.count list.items ≡ true) (after : Window) where
+      went : invoking s ops out ≡ taking s list.count list.items (W.invoked_of s.window list.count list.items)
+      unfolding If◌then◌else◌
+      went = listed ∙ rw (le-leb 1 list.count l, w)
+
+      pub invoke_full : (r : Refusal) → W.invoked_shown after (Err r) ≡ W.invoked_of s.window list.count list.items → invoking s ops out ≡ refusal s (number_of r)
+      unfolding taking If◌then◌else◌
+      invoke_full r i = went ∙ rw (← i, ne_eqb (number_of r) 0 (number_not_done r))
+
+      pub invoke_goes : (number : ℕ) → W.invoked_shown after (Ok number) ≡ W.invoked_of s.window list.count list.items →
+          invoking s ops out ≡ sending (with_window after s) number list.count list.items
+      unfolding taking If◌then◌else◌
+      invoke_goes number i = went ∙ rw (← i)
 
 -- ---- Retry
 
 module _ (s : Session) (number out : ℕ) where
-  pub retry_not_started : not s.started ≡ true → retrying s number out ≡ refusal s 11
+  pub retry_unusable : unusable s.started out ≡ true → retrying s number out ≡ refusal s 11
   unfolding retrying If◌then◌else◌
-  retry_not_started n = rw n
+  retry_unusable u = rw u
 
-  pub retry_small : not s.started ≡ false → out < 68 → retrying s number out ≡ refusal s 11
-  unfolding retrying If◌then◌else◌
-  retry_small n h = rw (n, lt-ltb out 68 h)
-
-  module _ (n : not s.started ≡ false) (h : 68 ≤ out) (slot : Slot) (e : slot ≡ W.kept_of s.window number) where
-    pub retry_late : slot.count < 1 → retrying s number out ≡ refusal s 7
+  module _ (u : unusable s.started out ≡ false) where
+    pub retry_late : None ≡ W.list_in (W.kept_of s.window number) → retrying s number out ≡ refusal s 7
     unfolding retrying If◌then◌else◌
-    retry_late l = rw (n, le-ltb out 68 h, ← e, lt-ltb slot.count 1 l)
+    retry_late e = rw (u, list_none (W.kept_of s.window number) e)
 
-    pub retry_goes : 1 ≤ slot.count → retrying s number out ≡ sending s number slot.count slot.items
+    pub retry_goes : (list : Items) → Some list ≡ W.list_in (W.kept_of s.window number) → retrying s number out ≡ sending s number list.count list.items
     unfolding retrying If◌then◌else◌
-    retry_goes l = rw (n, le-ltb out 68 h, ← e, le-ltb slot.count 1 l)
+    retry_goes list e =
+        let x = list_some (W.kept_of s.window number) list e in
+        rw (u, x.0, ← x.1, ← x.2)
 
 -- ---- Response
 
+module _ (s : Session) (client number : ℕ) (reads : Items) where
+  pub heard_other : (client ≡ s.client → ⊥) → responded_shown s (Err NotForMe) ≡ heard_of s client number reads.count reads.items
+  unfolding heard_of If◌then◌else◌
+  heard_other d = rw (ne_eqb client s.client d)
+
+  module _ (own : client ≡ s.client) where
+    pub heard_late : None ≡ W.list_in (W.kept_of s.window number) → responded_shown s (Err TooLate) ≡ heard_of s client number reads.count reads.items
+    unfolding heard_of If◌then◌else◌
+    heard_late e = rw (eq-eqb client s.client own, list_none (W.kept_of s.window number) e)
+
+    module _ (kept : Items) (e : Some kept ≡ W.list_in (W.kept_of s.window number)) where
+      pub heard_wrong : fits_of kept.count kept.items reads.count reads.items ≡ false → responded_shown s (Err DoesNotFit) ≡ heard_of s client number reads.count reads.items
+      unfolding heard_of If◌then◌else◌
+      heard_wrong w =
+          let x = list_some (W.kept_of s.window number) kept e in
+          rw (eq-eqb client s.client own, x.0, ← x.1, ← x.2, w)
+
+      pub heard_answers : fits_of kept.count kept.items reads.count reads.items ≡ true → (after : Window) → after ≡ W.answered_of s.window number →
+          responded_shown (with_window after s) (Ok (record { number = number; reads = reads })) ≡ heard_of s client number reads.count reads.items
+      unfolding heard_of If◌then◌else◌
+      heard_answers w after a =
+          let x = list_some (W.kept_of s.window number) kept e in
+          rw (eq-eqb client s.client own, x.0, ← x.1, ← x.2, w, a)
+
 -- a frame was read, and its kind decides
-pub by_kind : (s : Session) (bytes : List ℕ) (f : Frame) (head : Head) → not s.started ≡ false → f ≡ read_frame bytes → f.head ≡ head →
-    responded_of s bytes ≡ by_head s head f.count f.items
+pub by_kind : (s : Session) (bytes : List ℕ) (f : Frame) (head : Head) → s.started ≡ true → f ≡ read_frame bytes → f.head ≡ head →
+    responded_of s bytes ≡ by_head s head f.list.count f.list.items
 unfolding responded_of If◌then◌else◌
 by_kind s bytes f head n e h = simp (n, ← e, h)
 
@@ -127,6 +153,6 @@ other_head s (ExecNotif shard log-number) count items t = refl
 other_head s (Executed log-number) count items t = refl
 other_head s (Response client number) count items t = absurd (omega (arith, one_of 6 t))
 
-pub other_kind : (s : Session) (bytes : List ℕ) (f : Frame) → not s.started ≡ false → f ≡ read_frame bytes → OneOf (1 ∷ 2 ∷ 3 ∷ 4 ∷ 5 ∷ []) (tag_of H.the_type f.head) →
+pub other_kind : (s : Session) (bytes : List ℕ) (f : Frame) → s.started ≡ true → f ≡ read_frame bytes → OneOf (1 ∷ 2 ∷ 3 ∷ 4 ∷ 5 ∷ []) (tag_of H.the_type f.head) →
     responded_of s bytes ≡ declined_of s 2
-other_kind s bytes f n e t = by_kind s bytes f f.head n e refl ∙ other_head s f.head f.count f.items t
+other_kind s bytes f n e t = by_kind s bytes f f.head n e refl ∙ other_head s f.head f.list.count f.list.items t

@@ -13,10 +13,7 @@ use Rattle.window.specs.View as W
 use Rattle.session.specs.declared.Asked.{Asked}
 use Rattle.session.specs.declared.Operations.{Operations}
 use Rattle.session.specs.declared.Session.{Session}
-use Rattle.session.specs.declared.Started.{Started}
-use Rattle.session.specs.declared.Submitted.{Submitted}
-use Rattle.session.specs.declared.Responded.{Responded}
-use Rattle.session.specs.Model.{no_asked, Call}
+use Rattle.session.specs.Model.{no_asked, Call, Started, Submitted, Responded}
 
 unfoldable pub view_session : Session → R.Session
 view_session s = record { started = s.started; client = s.client; window = W.view_window s.window }

@@ -1,125 +1,79 @@
 // Situations H and K of 01, played with the code: client 3 invokes and is answered, and the program prints what it saw.
 #![tactic(auto)]
 
-use frames::{Frame, Head};
-use session::{Asked, Operations, Responded, Session};
+use frames::{Frame, Head, Items};
+use session::{Asked, Operations, Reply, Sent, Session};
 use std::io;
 
-// What an invocation gave: the answer, the number, and the ack that stands in Submit.
+// What an invocation gave, and the ack that stands in Submit.
 #[derive(Clone, Copy)]
 struct Seen {
-    session: Session,
-    answer: u8,
-    number: u16,
+    sent: Sent,
     ack: u16,
 }
 
-fn two(low: u8, high: u8) -> u16 {
-    (low as u16) + 256 * (high as u16)
-}
-
 // Put key 5 value 1000: the first of the four, the others lie behind the count.
-fn invoke(s: Session) -> Seen {
+fn invoke(s: &mut Session) -> Seen {
     let put = Asked {
         code: 1,
         key: 5,
         value: 1000,
     };
-    let items = [put; 4];
     let operations = Operations {
         count: 1,
-        items: items,
+        items: [put; 4],
     };
-    let mut out = [0u8; 68];
-    let r = session::invoke(s, operations, &mut out);
-    let ack = two(out[7], out[8]);
-    let after = r.session;
-    let sent = r.sent;
-    Seen {
-        session: after,
-        answer: sent.answer,
-        number: sent.number,
-        ack: ack,
-    }
+    let mut out = [0; 68];
+    let sent = Sent::from(s.invoke(operations, &mut out));
+    let ack = u16::from_le_bytes([out[7], out[8]]);
+    Seen { sent, ack }
 }
 
 // The head's Response to a number, without reads.
-fn answer(s: Session, number: u16) -> Responded {
-    let head = Head::Response {
-        client: 3,
-        number: number,
-    };
-    let items = [frames::no_item(); 4];
+fn answer(s: &mut Session, number: u16) -> Reply {
     let frame = Frame {
-        head: head,
-        count: 0,
-        items: items,
+        head: Head::Response { client: 3, number },
+        list: Items::new(),
     };
-    let mut bytes = [0u8; 8];
+    let mut bytes = [0; 8];
     frames::write_frame(frame, &mut bytes);
-    session::response(s, &bytes)
+    Reply::from(s.response(&bytes))
 }
 
-fn say(rt: &impl Print, n: u16) -> io::Result<()> {
-    print!(rt; " {n}")
-}
-
-fn end_line(rt: &impl Print) -> io::Result<()> {
-    println!(rt)
+// A session of client 3.
+fn started() -> Session {
+    let mut s = Session::unstarted();
+    s.start(3).unwrap();
+    s
 }
 
 // "numbers 0..7 invoked, 1..7 answered: invoke gives 9. Then 0 answered: number 8 goes out with ack 8."
 fn play_h(rt: &impl Print) -> io::Result<()> {
-    let started = session::start(3);
-    let mut s = started.session;
+    let mut s = started();
     print!(rt; "H")?;
-    let mut i: u16 = 0;
-    while i < 8 {
-        let a = invoke(s);
-        s = a.session;
-        say(rt, a.answer as u16)?;
-        i = i + 1;
+    for _ in 0..8 {
+        print!(rt; " {}", invoke(&mut s).sent.answer)?;
     }
-    let mut k: u16 = 1;
-    while k < 8 {
-        let b = answer(s, k);
-        s = b.session;
-        say(rt, b.reply.answer as u16)?;
-        k = k + 1;
+    for number in 1..8 {
+        print!(rt; " {}", answer(&mut s, number).answer)?;
     }
-    let full = invoke(s);
-    let t = full.session;
-    say(rt, full.answer as u16)?;
-    let b = answer(t, 0);
-    let u = b.session;
-    let goes = invoke(u);
-    say(rt, goes.answer as u16)?;
-    say(rt, goes.number)?;
-    say(rt, goes.ack)?;
-    end_line(rt)
+    print!(rt; " {}", invoke(&mut s).sent.answer)?;
+    answer(&mut s, 0);
+    let goes = invoke(&mut s);
+    println!(rt; " {} {} {}", goes.sent.answer, goes.sent.number, goes.ack)
 }
 
 // "number 65,534 goes; the next invoke gives 10": every number before it is invoked and answered.
 fn play_k(rt: &impl Print) -> io::Result<()> {
-    let started = session::start(3);
-    let mut s = started.session;
+    let mut s = started();
     print!(rt; "K")?;
-    let mut i: u16 = 0;
-    while i < 65534 {
-        let a = invoke(s);
-        s = a.session;
-        let b = answer(s, a.number);
-        s = b.session;
-        i = i + 1;
+    for _ in 0..65534 {
+        let number = invoke(&mut s).sent.number;
+        answer(&mut s, number);
     }
-    let last = invoke(s);
-    let t = last.session;
-    say(rt, last.answer as u16)?;
-    say(rt, last.number)?;
-    say(rt, last.ack)?;
-    let over = invoke(t);
-    say(rt, over.answer as u16)?;
-    end_line(rt)
+    let last = invoke(&mut s);
+    print!(rt; " {} {} {}", last.sent.answer, last.sent.number, last.ack)?;
+    println!(rt; " {}", invoke(&mut s).sent.answer)
 }
 
 fn main(rt: HostRuntime) -> io::Result<()> {

@@ -17,20 +17,19 @@ use Rattle.frames.specs.Frames.{read_frame, frame_bytes}
 use Rattle.frames.proofs.Puts.{length_frame}
 use Rattle.frames.proofs.Round.{Few, frame_few}
 use Rattle.shard.specs.declared.Cell.{Cell}
-use Rattle.shard.specs.declared.Reads.{Reads}
-use Rattle.shard.specs.declared.Verdict.{Verdict}
-use Rattle.shard.specs.Model.{read_of, noted, no_reads, Running, turn, ran, judge, exec_notif}
+use Rattle.frames.specs.declared.Items.{Items}
+use Rattle.shard.specs.Model.{Verdict, read_of, noted, no_reads, Running, turn, ran, judge, exec_notif}
 
 pub few_of : (f : Frame) (s : List ℕ) → f ≡ read_frame s → Few f
 few_of f s e = rw e (frame_few s)
 
 -- ---- The reads of a run are at most four
 
-pub record FewReads (rs : Reads) : Type 0 where
+pub record FewReads (rs : Items) : Type 0 where
   pub count : rs.count ≤ 4
   pub items : length rs.items ≡ 4
 
-pub noted_few : (rs : Reads) (x : Item) (c : Cell) → FewReads rs → FewReads (noted rs x c)
+pub noted_few : (rs : Items) (x : Item) (c : Cell) → FewReads rs → FewReads (noted rs x c)
 unfolding noted
 noted_few rs x c h =
     by FewReads (x.code =? 0 && rs.count <? 4)
@@ -62,7 +61,7 @@ taken_room started room m own ssn last f =
 
 -- ---- ExecNotif fits
 
-pub notif_room : (own ind : ℕ) (rs : Reads) → FewReads rs → ((exec_notif own ind rs).count ≤ 4) × (length (frame_bytes (exec_notif own ind rs)) ≤ 68)
+pub notif_room : (own ind : ℕ) (rs : Items) → FewReads rs → ((exec_notif own ind rs).list.count ≤ 4) × (length (frame_bytes (exec_notif own ind rs)) ≤ 68)
 unfolding exec_notif
 notif_room own ind rs h =
     let k : rs.count ≤ length rs.items = omega (arith, h.items, h.count) in

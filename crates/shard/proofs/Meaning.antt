@@ -23,10 +23,9 @@ use Rattle.frames.specs.declared.Item.{Item}
 use Rattle.frames.specs.declared.Head.{Head}
 use Rattle.frames.specs.declared.Head.TheVariants.{Bad, Submit, Forward, ShardAppend, ExecNotif, Executed, Response}
 use Rattle.frames.specs.View.{view_last, as_operation, as_placed, meant, record_of}
-use Rattle.frames.proofs.Items.{key_of_lem}
+use Rattle.frames.proofs.Slots.{key_of_lem}
 use Rattle.shard.specs.declared.Shard.{Shard}
-use Rattle.shard.specs.declared.Verdict.{Verdict}
-use Rattle.shard.specs.Model.{mine, all_mine, refused, judge_append, judge_head, no_reads, exec_notif, Outcome, after, settled}
+use Rattle.shard.specs.Model.{Verdict, mine, all_mine, refused, judge_append, judge_head, no_reads, exec_notif, Outcome, after, settled}
 use Rattle.shard.specs.View.{view_store, view_shard, reads_record, Held}
 use Rattle.shard.proofs.Runs.{Keys, ran_means}
 

@@ -23,15 +23,15 @@ use Rattle.rules.proofs.Lists.{by, and_l, and_r, nothing}
 use Rattle.rules.proofs.Frames.{decode_spells}
 use Rattle.rules.proofs.Shard.{start_good, step_good}
 use Rattle.rules.proofs.Steps.{ready}
+use Rattle.std.specs.Prelude.{Result, Ok, Err}
+use Rattle.refusal.specs.declared.Refusal.{Refusal}
+use Rattle.refusal.proofs.Tells.{number_tells, number_not_done}
 use Rattle.frames.specs.declared.Item.{Item}
 use Rattle.frames.specs.Frames.{read_frame, frames_bytes}
 use Rattle.frames.specs.View.{meaning, record_of, Bytes}
 use Rattle.shard.specs.declared.Cell.{Cell}
 use Rattle.shard.specs.declared.Shard.{Shard}
-use Rattle.shard.specs.declared.Started.{Started}
-use Rattle.shard.specs.declared.Stepped.{Stepped}
-use Rattle.shard.specs.declared.Verdict.{Verdict}
-use Rattle.shard.specs.Model.{absent, empty_shard, start_of, judge, cell_at, cell_after, Running, turn, ran, Outcome, after, settled, items_of, outcome, stepped, laid, step_of, out_of}
+use Rattle.shard.specs.Model.{shown_start, shown, Started, Stepped, Verdict, absent, empty_shard, start_of, judge, cell_at, cell_after, Running, turn, ran, Outcome, after, settled, items_of, outcome, stepped, laid, step_of, out_of}
 use Rattle.shard.specs.View.{view_cell, view_store, view_shard, Held, StartMeans, StepMeans}
 use Rattle.shard.proofs.Meaning.{Meant, Says, both, refused_means, head_means}
 use Rattle.frames.proofs.Meaning.{last_one, reads_mean, record-bytes}
@@ -45,7 +45,7 @@ each_absent (suc n) (suc key) = each_absent n key
 
 module _ (m own : ℕ) (started : Bool) where
   -- a fresh group knows no key
-  empty_store : (key : ℕ) → view_store (empty_shard m own started).cells key ≡ none
+  pub empty_store : (key : ℕ) → view_store (empty_shard m own started).cells key ≡ none
   unfolding view_store empty_shard view_cell If◌then◌else◌
   empty_store key = ap view_cell (each_absent 256 key)
 
@@ -57,6 +57,16 @@ pub fresh : (m own key : ℕ) → view_store (start_of m own).shard.cells key �
 unfolding start_of
 fresh m own key =
     by (λ (r : Started). view_store r.shard.cells key ≡ none) (within 1 8 m && within 1 m own) (λ t. empty_store m own true key) (λ t. empty_store 0 0 false key)
+
+-- what a refused start leaves, and that each step of it is refused
+pub refused_start : (m own : ℕ) → ((start_of m own).answer ≡ 0 → ⊥) → (start_of m own).shard ≡ empty_shard 0 0 false
+unfolding start_of
+refused_start m own =
+    by (λ (r : Started). (r.answer ≡ 0 → ⊥) → r.shard ≡ empty_shard 0 0 false) (within 1 8 m && within 1 m own) (λ t d. absurd (d refl)) (λ t d. refl)
+
+pub unstarted_refuses : (bytes : List ℕ) (room : ℕ) → (step_of (empty_shard 0 0 false) bytes room).answer ≡ not_usable
+unfolding step_of stepped outcome settled judge empty_shard If◌then◌else◌
+unstarted_refuses bytes room = refl
 
 start_agrees : (m own : ℕ) → ((start_of m own).answer ≡ (S.start m own).answer) × (view_shard (start_of m own).shard ≡ (S.start m own).state)
 unfolding start_of S.start taken refuse
@@ -155,7 +165,7 @@ module _ (s : Shard) (h : Held s) (bytes : List ℕ) (read : meaning (read_frame
       both (Says s xs) (unusable s.started room) (λ t. refused_means s xs not_usable refl)
       (λ t.
       rw (← read)
-      (head_means s h (groups (ready s.started (room <? least_out) t)) (read_frame bytes).head (read_frame bytes).count (read_frame bytes).items
+      (head_means s h (groups (ready s.started (room <? least_out) t)) (read_frame bytes).head (read_frame bytes).list.count (read_frame bytes).list.items
       (λ g d. (decode_spells bytes g (sym read ∙ d)).rules)))
 
   held_after : (room : ℕ) → Held (outcome s bytes room).shard
@@ -210,6 +220,19 @@ pub one_step : (s : Shard) (bytes out : List ℕ) (r t : Stepped) (left rest : L
     → (r ≡ step_of s bytes (length out)) × (left ≡ out_of s bytes out) → (t ≡ step_of s bytes (length out)) × (rest ≡ out_of s bytes out)
     → (r ≡ t) × (left ≡ rest)
 one_step s bytes out r t left rest p q = (p.0 ∙ sym q.0, p.1 ∙ sym q.1)
+
+-- what a result shows tells it, and the group beside it
+pub start_tells : (s t : Shard) (r u : Result (Unit {0}) Refusal) → shown_start s r ≡ shown_start t u → (s ≡ t) × (r ≡ u)
+start_tells s t (Ok x) (Ok y) e = (λ i. (e i).shard, refl)
+start_tells s t (Ok x) (Err f) e = absurd (number_not_done f (ap (λ (r : Started). r.answer) (sym e)))
+start_tells s t (Err f) (Ok y) e = absurd (number_not_done f (ap (λ (r : Started). r.answer) e))
+start_tells s t (Err f) (Err g) e = (λ i. (e i).shard, λ i. Err (number_tells f g (ap (λ (r : Started). r.answer) e) i))
+
+pub step_tells : (s t : Shard) (r u : Result ℕ Refusal) → shown s r ≡ shown t u → (s ≡ t) × (r ≡ u)
+step_tells s t (Ok x) (Ok y) e = (λ i. (e i).shard, λ i. Ok (e i).bytes)
+step_tells s t (Ok x) (Err f) e = absurd (number_not_done f (ap (λ (r : Stepped). r.answer) (sym e)))
+step_tells s t (Err f) (Ok y) e = absurd (number_not_done f (ap (λ (r : Stepped). r.answer) e))
+step_tells s t (Err f) (Err g) e = (λ i. (e i).shard, λ i. Err (number_tells f g (ap (λ (r : Stepped). r.answer) e) i))
 
 -- ---- A group is determined by what it means
 

@@ -15,7 +15,7 @@ use Rattle.rules.specs.Lists.{If◌then◌else◌, ◌=?◌, changed}
 use Rattle.rules.specs.Transactions.{Operation, get, put, Placed, Read, Store, effect, store_after, value_of, note, reads_of}
 use Rattle.frames.specs.declared.Item.{Item}
 use Rattle.shard.specs.declared.Cell.{Cell}
-use Rattle.shard.specs.declared.Reads.{Reads}
+use Rattle.frames.specs.declared.Items.{Items}
 use Rattle.shard.specs.Model.{absent, cell_at, cell_after, read_of, noted, Running, turn, ran}
 use Rattle.frames.specs.View.{as_placed, read_item, filled}
 use Rattle.shard.specs.View.{view_cell, view_store, reads_record}
@@ -110,7 +110,7 @@ ran_means ind (x ∷ xs) r store rs keys room h =
       size = length-set r.cells x.key (cell_after ind x (cell_at r.cells x.key)) ∙ h.size;
       store = store_turn ind x r.cells h.size keys.0 ∙ ap (λ (s : Store). effect ind s o) h.store;
       reads =
-          ap (λ (q : Reads). noted q x (cell_at r.cells x.key)) h.reads ∙ noted_turn x r.cells rs (omega arith)
+          ap (λ (q : Items). noted q x (cell_at r.cells x.key)) h.reads ∙ noted_turn x r.cells rs (omega arith)
           ∙ ap (λ (s : Store). reads_record (rs ++ note (as_placed x) o s [])) h.store;
     }) in
     let e : (rs ++ now) ++ reads_of ind (effect ind store o) (map as_placed xs) ≡ rs ++ note (as_placed x) o store (reads_of ind (effect ind store o) (map as_placed xs)) =

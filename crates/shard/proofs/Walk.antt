@@ -1,35 +1,27 @@
--- Walking the first n of an array: what is left at i begins with the element there, and a test or a run of the rest goes on behind it.
+-- Walking a list: what is left at i begins with the element there, and a run of the rest goes on behind it; a test of each is the library's.
 -- Assumes nothing.
-use mathlib.Core.Path.{◌≡◌}
-use mathlib.Core.Bool.{Bool, true, false, not}
-use mathlib.Core.List.{List}
+use mathlib.Core.Path.{◌≡◌, refl, ap}
+use mathlib.Core.Bool.{Bool, ◌&&◌}
+use mathlib.Core.List.{List, [], ◌∷◌}
 use Prim.Native.Nat.{ℕ, ◌+◌, ◌≤◌, ◌<◌}
-use native.Mathlib.Omega.{arith}
-use lib.ListN.{length, get_or, take, drop}
-use borrow.Author.Tests.{not-true, not-false}
+use native.Mathlib.Numerals.{add-one}
+use lib.ListN.{length, get_or, drop, drop_of_length-le}
+use lib.Seq.{drop-cons}
+use Rattle.std.specs.List.{list_all}
 use Rattle.rules.specs.Lists.{every}
 use Rattle.frames.specs.declared.Item.{Item}
-use Rattle.frames.proofs.Lists.{front_cons, front_end}
 use Rattle.shard.specs.Model.{Running, turn, ran}
 
-module _ {A : Type 0} (l : List A) (n : ℕ) (h : n ≤ length l) where
-  -- a test of each
-  pub every_no : (ok : A → Bool) (i : ℕ) (d : A) (t : Bool) → i < n → t ≡ ok (get_or l i d) → not t ≡ true → every ok (drop i (take n l)) ≡ false
-  every_no ok i d t k e f = rw (front_cons n l i d k (omega arith), ← e, not-true t f)
-
-  pub every_yes : (ok : A → Bool) (i : ℕ) (d : A) (t : Bool) → i < n → t ≡ ok (get_or l i d) → not t ≡ false
-      → every ok (drop (i + 1) (take n l)) ≡ every ok (drop i (take n l))
-  every_yes ok i d t k e f = rw (front_cons n l i d k (omega arith), ← e, not-false t f)
-
-  pub every_end : (ok : A → Bool) (i : ℕ) → n ≤ i → every ok (drop i (take n l)) ≡ true
-  every_end ok i k = rw (front_end n l i k)
+pub list_all_is : {A : Type 0} (ok : A → Bool) (xs : List A) → list_all ok xs ≡ every ok xs
+list_all_is ok [] = refl
+list_all_is ok (x ∷ xs) = ap (λ (b : Bool). ok x && b) (list_all_is ok xs)
 
 -- a run
-module _ (l : List Item) (n : ℕ) (h : n ≤ length l) (ind : ℕ) where
-  pub ran_on : (i : ℕ) (d : Item) (r : Running) → i < n → ran ind (drop (i + 1) (take n l)) (turn ind (get_or l i d) r) ≡ ran ind (drop i (take n l)) r
+module _ (xs : List Item) (ind : ℕ) where
+  pub ran_on : (i : ℕ) (d : Item) (r : Running) → i < length xs → ran ind (drop (i + 1) xs) (turn ind (get_or xs i d) r) ≡ ran ind (drop i xs) r
   unfolding ran
-  ran_on i d r k = rw (front_cons n l i d k (omega arith))
+  ran_on i d r k = rw (add-one, drop-cons xs i d k)
 
-  pub ran_end : (i : ℕ) (r : Running) → n ≤ i → ran ind (drop i (take n l)) r ≡ r
+  pub ran_end : (i : ℕ) (r : Running) → length xs ≤ i → ran ind (drop i xs) r ≡ r
   unfolding ran
-  ran_end i r k = rw (front_end n l i k)
+  ran_end i r k = rw (drop_of_length-le xs {i = i} k)

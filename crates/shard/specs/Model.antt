@@ -1,20 +1,60 @@
 -- What the code does with the records as they lie: every field and every byte, for every value of a record.
 -- Assumes nothing.
-use Rattle.std.specs.Prelude.{Bool, true, false, not, ◌&&◌, List, [], ◌∷◌, ◌++◌, ℕ, ◌+◌, ◌%◌, length, get_or, take, drop, set, replicate}
+use Rattle.std.specs.Prelude.{Bool, true, false, not, ◌&&◌, List, [], ◌∷◌, ◌++◌, ℕ, ◌+◌, ◌%◌, length, get_or, drop, set, replicate, Result, Ok, Err}
 use Rattle.rules.specs.Lists.{If◌then◌else◌, ◌<?◌, ◌≤?◌, ◌=?◌, within, every}
 use Rattle.rules.specs.Answers.{done, breaks_rule, not_for_me, too_early, too_late, does_not_fit, not_usable}
 use Rattle.rules.specs.Outcomes.{unusable}
 use Rattle.frames.specs.declared.Item.{Item}
 use Rattle.frames.specs.declared.Head.{Head}
 use Rattle.frames.specs.declared.Head.TheVariants.{Bad, Submit, Forward, ShardAppend, ExecNotif, Executed, Response}
+use Rattle.frames.specs.declared.Items.{Items}
 use Rattle.frames.specs.declared.Frame.{Frame}
 use Rattle.frames.specs.Frames.{no_item, frames_bytes, read_frame}
+use Rattle.frames.specs.Items.{in_list}
+use Rattle.refusal.specs.declared.Refusal.{Refusal}
+use Rattle.refusal.specs.Number.{number_of, answer_of}
 use Rattle.shard.specs.declared.Cell.{Cell}
 use Rattle.shard.specs.declared.Shard.{Shard}
-use Rattle.shard.specs.declared.Started.{Started}
-use Rattle.shard.specs.declared.Stepped.{Stepped}
-use Rattle.shard.specs.declared.Verdict.{Verdict}
-use Rattle.shard.specs.declared.Reads.{Reads}
+use Rattle.shard.specs.declared.Append.{Append}
+
+-- ---- What the results of a start, of the judging and of a step show, beside the group as it then stands
+
+-- the group, and 0, or 11 with every field of the group empty and the group not started
+pub record Started : Type 0 where
+  pub shard : Shard
+  pub answer : ℕ
+
+abbrev pub shown_start : Shard → Result (Unit {0}) Refusal → Started
+shown_start s result = record { shard = s; answer = answer_of result }
+
+-- the answer to a frame; where it is 0, the log number and sn of the ShardAppend that the frame is
+pub record Verdict : Type 0 where
+  pub answer : ℕ
+  pub log_number : ℕ
+  pub sn : ℕ
+
+abbrev pub shown_verdict : Result Append Refusal → Verdict
+shown_verdict (Ok append) = record { answer = done; log_number = append.log_number; sn = append.sn }
+shown_verdict (Err refusal) = record { answer = number_of refusal; log_number = 0; sn = 0 }
+
+-- the group as it then stands, the answer, and how many frames and bytes stand in the out area
+pub record Stepped : Type 0 where
+  pub shard : Shard
+  pub answer : ℕ
+  pub frames : ℕ
+  pub bytes : ℕ
+
+-- a step that is taken sends one frame, a refused one none
+abbrev pub frames_in : Result ℕ Refusal → ℕ
+frames_in (Ok bytes) = 1
+frames_in (Err refusal) = 0
+
+abbrev pub bytes_in : Result ℕ Refusal → ℕ
+bytes_in (Ok bytes) = bytes
+bytes_in (Err refusal) = 0
+
+abbrev pub shown : Shard → Result ℕ Refusal → Stepped
+shown s result = record { shard = s; answer = answer_of result; frames = frames_in result; bytes = bytes_in result }
 
 -- ---- Start
 
@@ -66,7 +106,7 @@ judge_head m own ssn last xs (Response client number) = refused not_for_me
 -- refusal 11 before these
 unfoldable pub judge : Bool → ℕ → ℕ → ℕ → ℕ → ℕ → Frame → Verdict
 judge started room m own ssn last f =
-    If unusable started room then refused not_usable else judge_head m own ssn last (take f.count f.items) f.head
+    If unusable started room then refused not_usable else judge_head m own ssn last (in_list f.list) f.head
 
 -- ---- Running
 
@@ -84,11 +124,11 @@ read_of x c =
     then record { place = x.place; code = 1; key = 0; value = c.value }
     else record { place = x.place; code = 0; key = 0; value = 0 }
 
-abbrev pub no_reads : Reads
+abbrev pub no_reads : Items
 no_reads = record { count = 0; items = replicate 4 no_item }
 
 -- a get adds what it sees, a put nothing
-unfoldable pub noted : Reads → Item → Cell → Reads
+unfoldable pub noted : Items → Item → Cell → Items
 noted rs x c =
     If x.code =? 0 && rs.count <? 4
     then record { count = rs.count + 1; items = set rs.items rs.count (read_of x c) }
@@ -97,7 +137,7 @@ noted rs x c =
 -- what changes while a list runs: the cells, and the reads so far
 pub record Running : Type 0 where
   pub cells : List Cell
-  pub reads : Reads
+  pub reads : Items
 
 unfoldable pub turn : ℕ → Item → Running → Running
 turn log-number x r =
@@ -113,8 +153,8 @@ ran log-number (x ∷ xs) r = ran log-number xs (turn log-number x r)
 
 -- ---- The step
 
-unfoldable pub exec_notif : ℕ → ℕ → Reads → Frame
-exec_notif own log-number rs = record { head = ExecNotif own log-number; count = rs.count; items = rs.items }
+unfoldable pub exec_notif : ℕ → ℕ → Items → Frame
+exec_notif own log-number rs = record { head = ExecNotif own log-number; list = rs }
 
 -- the group as it then stands, the answer, and the frames sent
 pub record Outcome : Type 0 where
@@ -139,7 +179,7 @@ settled s xs v =
     else record { shard = s; answer = v.answer; frames = [] }
 
 abbrev pub items_of : Frame → List Item
-items_of f = take f.count f.items
+items_of f = in_list f.list
 
 -- a frame's bytes arrive, with an out area of some length
 unfoldable pub outcome : Shard → List ℕ → ℕ → Outcome

@@ -8,13 +8,11 @@ use Rattle.rules.specs.Transactions as R
 use Rattle.rules.specs.Outcomes.{frame_count, byte_count, out_after}
 use Rattle.rules.specs.Shard as S
 use Rattle.rules.specs.Kept.{ShardKept}
+use Rattle.frames.specs.declared.Items.{Items}
 use Rattle.frames.specs.View.{view_last, read_item, filled}
 use Rattle.shard.specs.declared.Cell.{Cell}
-use Rattle.shard.specs.declared.Reads.{Reads}
 use Rattle.shard.specs.declared.Shard.{Shard}
-use Rattle.shard.specs.declared.Started.{Started}
-use Rattle.shard.specs.declared.Stepped.{Stepped}
-use Rattle.shard.specs.Model.{absent, cell_at}
+use Rattle.shard.specs.Model.{Started, Stepped, absent, cell_at}
 
 -- "A key never put is absent"
 unfoldable pub view_cell : Cell → Option R.Cell
@@ -28,7 +26,7 @@ view_shard s =
     record { started = s.started; m = s.m; own = s.own; store = view_store s.cells; ssn = s.ssn; last_run = view_last s.last_run }
 
 -- the record of some reads, as ExecNotif carries them
-unfoldable pub reads_record : List Read → Reads
+unfoldable pub reads_record : List Read → Items
 reads_record rs = record { count = length rs; items = filled 4 (map read_item rs) }
 
 -- What every start gives and every step keeps: the cells are all there, the setup is one that starts, what is absent is zero, and

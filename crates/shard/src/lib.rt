@@ -1,27 +1,30 @@
-// A shard group, by value: its cells, its start and its step. What the functions do stands in specs/Model.antt, what that
-// means in the rules' words in specs/View.antt, and what follows of every start and step in proofs/Promises.antt.
+// A shard group: its cells, its start and its step. What the functions do stands in specs/Model.antt, what that means in the rules' words in
+// specs/View.antt, and what follows of every start and step in proofs/Promises.antt.
 #![tactic(auto)]
 
-ghost use Rattle.std.specs.Prelude.{◌≡◌, true, false, ◌≤◌, length, take};
-ghost use Rattle.shard.specs.Model.{empty_shard, start_of, mine, all_mine, refused, judge, read_of, no_reads, noted, cell_after, exec_notif, step_of, out_of};
+ghost use Rattle.std.specs.Prelude.{◌≡◌, false, ◌&&◌, length, OnErr};
+ghost use Rattle.rules.specs.Lists.{within};
+ghost use Rattle.frames.specs.Items.{in_list};
+ghost use Rattle.shard.specs.Model.{empty_shard, start_of, mine, all_mine, judge, read_of, noted, cell_after, step_of, out_of, shown_start, shown_verdict, shown};
 ghost use Rattle.shard.specs.View.{Held, StartMeans, StepMeans};
 
-use frames::{Frame, Head, Item, LogNumber};
+use frames::{Frame, Head, Item, Items, LogNumber};
+use refusal::Refusal;
 
 // "An out area must have at least 68 bytes."
 const LEAST_OUT: usize = 68;
 
 // What the group has for a key: the value last put and the log number that put it. A key never put is absent, and its cell
-// is zero. In this order of fields a cell is 8 bytes.
+// is zero. In this order of fields a cell is 8 bytes. C lays it out.
 #[repr(C)]
-#[derive(Clone, Copy)]
+#[derive(Clone, Copy, Default)]
 pub struct Cell {
     pub value: u32,
     pub log_number: LogNumber,
     pub present: bool,
 }
 
-// Shard group own of m, a cell for each key. last_run is 1 more than the log number last run, and 0 where none was.
+// Shard group own of m, a cell for each key. last_run is 1 more than the log number last run, and 0 where none was. C lays it out.
 #[repr(C)]
 #[derive(Clone, Copy)]
 pub struct Shard {
@@ -33,159 +36,35 @@ pub struct Shard {
     pub started: bool,
 }
 
-// What a start gives: the group, and 0, or 11 with every field of the group empty and the group not started.
+// The log number and sn of the ShardAppend that a frame is, where it is to be run.
 #[derive(Clone, Copy)]
-pub struct Started {
-    pub shard: Shard,
-    pub answer: u8,
-}
-
-// What a step gives: the group as it then stands, the answer, and how many frames and bytes stand in the out area.
-#[derive(Clone, Copy)]
-pub struct Stepped {
-    pub shard: Shard,
-    pub answer: u8,
-    pub frames: u8,
-    pub bytes: usize,
-}
-
-// The answer to a frame; where it is 0, the log number and sn of the ShardAppend that the frame is.
-#[derive(Clone, Copy)]
-struct Verdict {
-    answer: u8,
+struct Append {
     log_number: LogNumber,
     sn: u16,
 }
 
-// The reads of the gets that have run, in their order.
-#[derive(Clone, Copy)]
-struct Reads {
-    count: u8,
-    items: [Item; 4],
-}
-
-// ---- Start
-
-fn empty(m: u8, own: u8, started: bool) -> Shard
-    ensures { result ≡ empty_shard m own started }
+// A group of m, and its own number: "Shard groups m: 1..8", 1..m.
+fn in_range(m: u8, own: u8) -> bool
+    ensures { result ≡ (within 1 8 m && within 1 m own) }
 {
-    let absent = Cell {
-        value: 0,
-        log_number: 0,
-        present: false,
-    };
-    let cells = [absent; 256];
-    Shard {
-        cells: cells,
-        ssn: 0,
-        last_run: 0,
-        m: m,
-        own: own,
-        started: started,
-    }
+    (1..=8).contains(&m) && (1..=m).contains(&own)
 }
 
-// A group starts from m and its own number alone: a fresh one knows no key, whatever its memory held. What is promised is
-// every field, and that they mean the rules' start.
-pub fn start(m: u8, own: u8) -> Started
-    ensures value { result ≡ start_of m own }
-    ensures start_means { StartMeans m own result }
-{
-    let usable = (1 <= m) & (m <= 8) & ((1 <= own) & (own <= m));
-    if !usable {
-        return Started {
-            shard: empty(0, 0, false),
-            answer: 11,
-        };
-    }
-    Started {
-        shard: empty(m, own, true),
-        answer: 0,
-    }
-}
-
-// ---- The answer
+// ---- An item and its cell
 
 // "Key k belongs to shard (k mod m) + 1."
+#[tactic(auto, using(std::proofs::lemmas::Bool::Decides::nat_tests), unfolding(crate::specs::Model::mine))]
 fn is_mine(m: u8, own: u8, x: Item) -> bool
     ensures { result ≡ mine m own x }
 {
-    if m == 0 {
-        return false;
-    }
-    x.key % m + 1 == own
+    m != 0 && x.key % m + 1 == own
 }
 
-fn all_mine(m: u8, own: u8, count: u8, items: [Item; 4]) -> bool
-    requires { count ≤ 4 }
-    ensures { result ≡ all_mine m own (take count items) }
+fn all_mine(m: u8, own: u8, list: &Items) -> bool
+    ensures { result ≡ all_mine m own (in_list list.now) }
 {
-    let n = count as usize;
-    let mut i: usize = 0;
-    while i < n {
-        let x = items[i];
-        if !is_mine(m, own, x) {
-            return false;
-        }
-        i += 1;
-    }
-    true
+    list.as_slice().iter().all(|x| is_mine(m, own, *x))
 }
-
-fn refused(answer: u8) -> Verdict
-    ensures { result ≡ refused answer }
-{
-    Verdict {
-        answer: answer,
-        log_number: 0,
-        sn: 0,
-    }
-}
-
-// The refusals in their order: 11, 1, 2, 7, 4, 8.
-fn judge(started: bool, room: usize, m: u8, own: u8, ssn: u16, last_run: u32, f: Frame) -> Verdict
-    requires { f.count ≤ 4 }
-    ensures { result ≡ judge started room m own ssn last_run f }
-{
-    if !started | (room < LEAST_OUT) {
-        return refused(11);
-    }
-    let head = f.head;
-    if let Head::Bad = head {
-        return refused(1);
-    }
-    let Head::ShardAppend {
-        shard,
-        log_number,
-        sn,
-    } = head
-    else {
-        return refused(2);
-    };
-    if shard != own {
-        return refused(2);
-    }
-    if sn <= ssn {
-        return refused(7);
-    }
-    if (ssn as u32) + 1 < (sn as u32) {
-        return refused(4);
-    }
-    let items = f.items;
-    if !all_mine(m, own, f.count, items) {
-        return refused(8);
-    }
-    if (log_number as u32) < last_run {
-        return refused(8);
-    }
-    Verdict {
-        answer: 0,
-        log_number: log_number,
-        sn: sn,
-    }
-}
-
-// ---- Running
 
 // What a get says of its key's cell; a value is 0 if its key is absent.
 fn read_of(x: Item, cell: Cell) -> Item
@@ -194,9 +73,7 @@ fn read_of(x: Item, cell: Cell) -> Item
     if !cell.present {
         return Item {
             place: x.place,
-            code: 0,
-            key: 0,
-            value: 0,
+            ..frames::no_item()
         };
     }
     Item {
@@ -207,29 +84,13 @@ fn read_of(x: Item, cell: Cell) -> Item
     }
 }
 
-fn no_reads() -> Reads
-    ensures { result ≡ no_reads }
-{
-    let none = frames::no_item();
-    let items = [none; 4];
-    Reads {
-        count: 0,
-        items: items,
-    }
-}
-
 // A get adds what it sees, a put nothing.
-fn note(mut reads: Reads, x: Item, cell: Cell) -> Reads
-    ensures { result ≡ noted reads x cell }
+fn note(reads: &mut Items, x: Item, cell: Cell)
+    ensures { reads.new ≡ noted reads.old x cell }
 {
-    let at = reads.count as usize;
-    let seen = (x.code == 0) & (at < 4);
-    if !seen {
-        return reads;
+    if x.code == 0 {
+        reads.push(read_of(x, cell));
     }
-    reads.items[at] = read_of(x, cell);
-    reads.count += 1;
-    reads
 }
 
 // "Each put stores the value and the log number"; a get leaves its cell as it is.
@@ -242,68 +103,101 @@ fn cell_after(log_number: LogNumber, x: Item, cell: Cell) -> Cell
     }
     Cell {
         value: x.value,
-        log_number: log_number,
+        log_number,
         present: true,
     }
 }
 
-// ---- Step
-
-fn exec_notif(own: u8, log_number: LogNumber, reads: Reads) -> Frame
-    ensures { result ≡ exec_notif own log_number reads }
-{
-    let head = Head::ExecNotif {
-        shard: own,
-        log_number: log_number,
-    };
-    let items = reads.items;
-    Frame {
-        head: head,
-        count: reads.count,
-        items: items,
+impl Shard {
+    // The group that a refused start leaves: without a key, and not started.
+    #[tactic(auto, unfolding(crate::specs::Model::empty_shard))]
+    pub fn unstarted() -> Shard
+        ensures { result ≡ empty_shard 0 0 false }
+    {
+        Shard {
+            cells: [Cell::default(); 256],
+            ssn: 0,
+            last_run: 0,
+            m: 0,
+            own: 0,
+            started: false,
+        }
     }
-}
 
-// A frame's bytes arrive. A ShardAppend that is not refused runs its operations in order, on the cells in place, so that a
-// get sees the earlier puts of its list; then ssn and last run move, and ExecNotif goes out with the reads at their places.
-// A refusal leaves the group and the out area as they were. What is promised is every field and every byte of the out area,
-// whatever the group's bits; and, of a group that is held, as every start gives it and every step keeps it, that they mean
-// the rules' step.
-pub fn step(mut s: Shard, frame: &[u8], out: &mut [u8]) -> Stepped
-    ensures value { (result ≡ step_of s frame.now (length out.old)) × (out.new ≡ out_of s frame.now out.old) }
-    ensures step_means { Held s → StepMeans s frame.now out.old result out.new }
-{
-    let f = frames::read_frame(frame);
-    let v = judge(s.started, out.len(), s.m, s.own, s.ssn, s.last_run, f);
-    if v.answer != 0 {
-        return Stepped {
-            shard: s,
-            answer: v.answer,
-            frames: 0,
-            bytes: 0,
+    // A group starts from m and its own number alone: it then knows no key, whatever its memory held. Refusal 11 leaves it empty and not started.
+    // What is promised is every field, and that they mean the rules' start.
+    pub fn start(&mut self, m: u8, own: u8) -> Result<(), Refusal>
+        ensures value { shown_start self.new result ≡ start_of m own }
+        ensures start_means { StartMeans m own (shown_start self.new result) }
+    {
+        *self = Shard::unstarted();
+        if !in_range(m, own) {
+            return Err(Refusal::NotUsable);
+        }
+        self.m = m;
+        self.own = own;
+        self.started = true;
+        Ok(())
+    }
+
+    // The refusals in their order: 11, 1, 2, 7, 4, 8.
+    fn judge(&self, room: usize, f: &Frame) -> Result<Append, Refusal>
+        ensures { shown_verdict result ≡ judge self.now.started room self.now.m self.now.own self.now.ssn self.now.last_run f.now }
+    {
+        if !self.started || room < LEAST_OUT {
+            return Err(Refusal::NotUsable);
+        }
+        let (shard, log_number, sn) = match f.head {
+            Head::Bad => return Err(Refusal::BreaksRule),
+            Head::ShardAppend {
+                shard,
+                log_number,
+                sn,
+            } => (shard, log_number, sn),
+            _ => return Err(Refusal::NotForMe),
         };
+        if shard != self.own {
+            return Err(Refusal::NotForMe);
+        }
+        if sn <= self.ssn {
+            return Err(Refusal::TooLate);
+        }
+        if sn - self.ssn > 1 {
+            return Err(Refusal::TooEarly);
+        }
+        if !all_mine(self.m, self.own, &f.list) || u32::from(log_number) < self.last_run {
+            return Err(Refusal::DoesNotFit);
+        }
+        Ok(Append { log_number, sn })
     }
-    let log_number = v.log_number;
-    let items = f.items;
-    let count = f.count as usize;
-    let mut reads = no_reads();
-    let mut i: usize = 0;
-    while i < count {
-        let x = items[i];
-        let key = x.key as usize;
-        let cell = s.cells[key];
-        reads = note(reads, x, cell);
-        s.cells[key] = cell_after(log_number, x, cell);
-        i += 1;
-    }
-    s.ssn = v.sn;
-    s.last_run = (log_number as u32) + 1;
-    let notif = exec_notif(s.own, log_number, reads);
-    let bytes = frames::write_frame(notif, out);
-    Stepped {
-        shard: s,
-        answer: 0,
-        frames: 1,
-        bytes: bytes,
+
+    // A frame's bytes arrive. A ShardAppend that is not refused runs its operations in order, on the cells in place, so that a
+    // get sees the earlier puts of its list; then ssn and last run move, and ExecNotif goes out with the reads at their places: what is
+    // returned is how many bytes it has. A refusal leaves the group and the out area as they were. What is promised is every field and every
+    // byte of the out area, whatever the group's bits; and, of a group that is held, as every start gives it and every step keeps it, that
+    // they mean the rules' step.
+    pub fn step(&mut self, frame: &[u8], out: &mut [u8]) -> Result<usize, Refusal>
+        ensures value { (shown self.new result ≡ step_of self.old frame.now (length out.old))
+            × (out.new ≡ out_of self.old frame.now out.old) }
+        ensures step_means { Held self.old → StepMeans self.old frame.now out.old (shown self.new result) out.new }
+        ensures refusal { OnErr result ((self.new ≡ self.old) × (out.new ≡ out.old)) }
+    {
+        let f = frames::read_frame(frame);
+        let Append { log_number, sn } = self.judge(out.len(), &f)?;
+        let mut reads = Items::new();
+        for x in f.list.as_slice() {
+            let key = x.key as usize;
+            let cell = self.cells[key];
+            note(&mut reads, *x, cell);
+            self.cells[key] = cell_after(log_number, *x, cell);
+        }
+        self.ssn = sn;
+        self.last_run = u32::from(log_number) + 1;
+        let head = Head::ExecNotif {
+            shard: self.own,
+            log_number,
+        };
+        let notif = Frame { head, list: reads };
+        Ok(frames::write_frame(notif, out))
     }
 }

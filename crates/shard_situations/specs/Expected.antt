@@ -1,11 +1,10 @@
 -- What situations E and G must give.
 -- Assumes nothing.
 use Rattle.std.specs.Prelude.{List, [], ◌∷◌, ℕ}
-use Rattle.shard_situations.specs.declared.Answers.{Answers}
 
 -- "sn 2 at a fresh shard: 4. sn 1 twice: 0, then 7"
-abbrev pub answers_e : Answers
-answers_e = record { first = 4; second = 0; third = 7 }
+abbrev pub answers_e : List ℕ
+answers_e = 4 ∷ 0 ∷ 7 ∷ []
 
 -- ExecNotif from shard 1 for log number 0: "one read, place 1, present, 7"
 abbrev pub sent_g : List ℕ

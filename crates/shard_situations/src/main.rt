@@ -2,60 +2,65 @@
 // program prints what it saw.
 #![tactic(auto)]
 
-ghost use Rattle.std.specs.Prelude.{◌≡◌, ◌++◌, drop};
+ghost use Rattle.std.specs.Prelude.{◌≡◌, ◌++◌, drop, Result};
+ghost use Rattle.refusal.specs.Number.{answer_of};
+ghost use Rattle.shard.specs.Model.{start_of};
 ghost use Rattle.shard_situations.specs.Expected.{answers_e, sent_g};
 
+use refusal::Refusal;
+use shard::Shard;
 use std::io;
 
-#[derive(Clone, Copy)]
-struct Answers {
-    first: u8,
-    second: u8,
-    third: u8,
+// The answer that a step shows: 0 where it was taken, else the refusal's number.
+fn answer(step: Result<usize, Refusal>) -> u8
+    ensures { result ≡ answer_of step }
+{
+    step.err().map_or(0, u8::from)
+}
+
+// Shard group 1 of 1, fresh.
+fn fresh() -> Shard
+    ensures { result ≡ (start_of 1 1).shard }
+{
+    let mut s = Shard::unstarted();
+    let started = s.start(1, 1);
+    check::expect(started.is_ok());
+    s
 }
 
 // "sn 2 at a fresh shard: 4. sn 1 twice: 0, then 7." Each ShardAppend is log number 0's, put key 5 value 1000.
-fn play_e() -> Answers
+fn play_e() -> [u8; 3]
     ensures { result ≡ answers_e }
 {
-    let mut out = [0u8; 68];
-    let started = shard::start(1, 1);
-    let fresh = started.shard;
+    let mut out = [0; 68];
+    let mut s = fresh();
     let early = b"\x0f\x00\x03\x00\x01\x00\x00\x02\x00\x01\x00\x01\x05\xe8\x03\x00\x00";
     let first = b"\x0f\x00\x03\x00\x01\x00\x00\x01\x00\x01\x00\x01\x05\xe8\x03\x00\x00";
-    let a = shard::step(fresh, early, &mut out);
-    let s = a.shard;
-    let b = shard::step(s, first, &mut out);
-    let t = b.shard;
-    let c = shard::step(t, first, &mut out);
-    Answers {
-        first: a.answer,
-        second: b.answer,
-        third: c.answer,
-    }
+    let a = answer(s.step(early, &mut out));
+    let b = answer(s.step(first, &mut out));
+    let c = answer(s.step(first, &mut out));
+    [a, b, c]
 }
 
 // "put key 5 value 7, get key 5: one read, place 1, present, 7."
 fn play_g(out: &mut [u8; 68]) -> u8
     ensures { (result ≡ 0) × (out.new ≡ sent_g ++ drop 14 out.old) }
 {
-    let started = shard::start(1, 1);
-    let fresh = started.shard;
+    let mut s = fresh();
     let both =
         b"\x16\x00\x03\x00\x01\x00\x00\x01\x00\x02\x00\x01\x05\x07\x00\x00\x00\x01\x00\x05\x00\x00\x00\x00";
-    let a = shard::step(fresh, both, out);
-    a.answer
+    answer(s.step(both, out))
 }
 
 fn main(rt: HostRuntime) -> io::Result<()> {
-    let e = play_e();
-    check::expect(e.first == 4);
-    check::expect(e.second == 0);
-    check::expect(e.third == 7);
+    let answers = play_e();
+    check::expect(answers[0] == 4);
+    check::expect(answers[1] == 0);
+    check::expect(answers[2] == 7);
     print!(rt; "E")?;
-    say(&rt, e.first)?;
-    say(&rt, e.second)?;
-    say(&rt, e.third)?;
+    for answer in answers {
+        say(&rt, answer)?;
+    }
     let mut out = [0u8; 68];
     let answer = play_g(&mut out);
     check::expect(answer == 0);
@@ -64,10 +69,8 @@ fn main(rt: HostRuntime) -> io::Result<()> {
     check::expect(out[10] == 7);
     print!(rt; "\nG")?;
     say(&rt, answer)?;
-    let mut i = 0;
-    while i < 14 {
-        say(&rt, out[i])?;
-        i += 1;
+    for byte in &out[..14] {
+        say(&rt, *byte)?;
     }
     println!(rt)
 }

@@ -1,12 +1,17 @@
 -- Each form of promise is tight: both outcomes equal the same right-hand side, so they equal each other.
 -- Assumes nothing.
 use mathlib.Core.Path.{◌≡◌, sym, ◌∙◌}
-use Rattle.tight.specs.Promise.{Promise, Tight, ByEquation, Both, WithLent, WithTwoLent, Also}
+use Rattle.tight.specs.Promise.{Promise, Tight, ByEquation, ByShown, Both, WithLent, WithTwoLent, Also}
 
 -- ---- The forms of the contracts
 
 pub by_equation : {Given Came : Type 0} (came-of : Given → Came) → Tight (ByEquation came-of)
 by_equation came-of = record { one = λ given this that p q. p ∙ sym q }
+
+-- where what is shown tells one that came from any other
+pub by_shown : {Given Came Shown : Type 0} (shown : Came → Shown) (shown-of : Given → Shown)
+    → ((this that : Came) → shown this ≡ shown that → this ≡ that) → Tight (ByShown shown shown-of)
+by_shown shown shown-of tells = record { one = λ given this that p q. tells this that (p ∙ sym q) }
 
 pub both : {Given A B : Type 0} {P : Promise Given A} {Q : Promise Given B} → Tight P → Tight Q → Tight (Both P Q)
 both s t = record { one = λ given this that p q. λ i. (s.one given this.0 that.0 p.0 q.0 i, t.one given this.1 that.1 p.1 q.1 i) }

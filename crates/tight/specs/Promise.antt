@@ -17,6 +17,10 @@ pub record Tight {Given Came : Type 0} (P : Promise Given Came) : Type 0 where
 abbrev pub ByEquation : {Given Came : Type 0} → (Given → Came) → Promise Given Came
 ByEquation came-of given came = came ≡ came-of given
 
+-- what came by an equation for what it shows: shown r ≡ result ..
+abbrev pub ByShown : {Given Came Shown : Type 0} → (Came → Shown) → (Given → Shown) → Promise Given Came
+ByShown shown shown-of given came = shown came ≡ shown-of given
+
 -- one promise of the first part of what came, another of the second
 abbrev pub Both : {Given A B : Type 0} → Promise Given A → Promise Given B → Promise Given (A × B)
 Both P Q given came = P given came.0 × Q given came.1

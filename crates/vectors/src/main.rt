@@ -1,208 +1,133 @@
 // Runs the vectors of the frames: each line of the input is a frame's bytes as hexadecimal digits and a text behind them; the line is
-// written again with an answer in place of the digits. 0: the bytes are read as a frame, and every way of writing it gives them again.
-// 1: they are refused. 9: something of that fails.
+// written again with an answer in place of the digits.
 #![tactic(auto)]
 
-ghost use Rattle.std.specs.Prelude.{◌≤◌, length, IfOk};
+ghost use Rattle.std.specs.Prelude.{◌<◌, ◌≤◌, length, IfOk, IfSome};
 
 use frames::{Frame, Head};
 use std::io;
 use std::io::Read;
 
+// What a line's digits turn out to be.
+#[derive(Clone, Copy)]
+enum Answer {
+    // The bytes are read as a frame, and every way of writing it gives them again.
+    Frame,
+    // They are refused.
+    Refused,
+    // Something of that fails.
+    Wrong,
+}
+
+impl Answer {
+    // What is written for it.
+    fn text(self) -> &'static str {
+        match self {
+            Answer::Frame => "0",
+            Answer::Refused => "1",
+            Answer::Wrong => "9",
+        }
+    }
+}
+
 // ---- One vector
 
-// s laid over an out area from a place on.
+// An out area that nothing was written to.
+const EMPTY: [u8; 80] = [0xEE; 80];
+
+// s laid over an out area from a place on, as far as it reaches.
 fn lay(s: &[u8], at: usize, mut area: [u8; 80]) -> [u8; 80] {
-    let mut i = 0;
-    while i < s.len() {
-        if at < 80 {
-            if i < 80 - at {
-                area[at + i] = s[i];
-            }
-        }
-        i += 1;
+    for (to, from) in area.iter_mut().skip(at).zip(s) {
+        *to = *from;
     }
     area
 }
 
-fn same(a: &[u8; 80], b: &[u8; 80]) -> bool {
-    check::same(a, b)
-}
-
-// Written into the first `room` bytes of an out area.
-fn write_in(f: Frame, room: usize, out: &mut [u8]) -> usize {
-    if room <= out.len() {
-        let start = 0;
-        return frames::write_frame(f, &mut out[start..room]);
-    }
-    0
-}
-
-fn write(f: Frame, room: usize, out: &mut [u8; 80]) -> usize {
-    write_in(f, room, out)
-}
-
-fn write_behind(f: Frame, at: usize, out: &mut [u8; 80]) -> usize {
-    frames::write_behind(f, out, at)
-}
-
-fn empty() -> [u8; 80] {
-    [0xEE; 80]
-}
-
 // The frame is written as s, and no other byte changes.
 fn once(f: Frame, s: &[u8]) -> bool {
-    let mut out = empty();
-    let end = write(f, 80, &mut out);
-    let wanted = lay(s, 0, empty());
-    (end == s.len()) & same(&out, &wanted)
+    let mut out = EMPTY;
+    let end = frames::write_frame(f, &mut out);
+    end == s.len() && out == lay(s, 0, EMPTY)
 }
 
 // Written behind itself it stands there twice, and no other byte changes.
 fn twice(f: Frame, s: &[u8]) -> bool {
-    let mut out = empty();
-    let first = write(f, 80, &mut out);
-    let second = write_behind(f, first, &mut out);
-    let wanted = lay(s, first, lay(s, 0, empty()));
-    (first == s.len()) & (first < second) & same(&out, &wanted)
+    let mut out = EMPTY;
+    let first = frames::write_frame(f, &mut out);
+    let second = frames::write_behind(f, &mut out, first);
+    first == s.len() && first < second && out == lay(s, first, lay(s, 0, EMPTY))
 }
 
 // With one byte too little nothing is written and 0 is returned.
 fn never(f: Frame, s: &[u8]) -> bool {
-    let mut out = empty();
-    if s.len() < 1 {
+    if s.is_empty() || EMPTY.len() < s.len() {
         return false;
     }
-    let end = write(f, s.len() - 1, &mut out);
-    (end == 0) & same(&out, &empty())
+    let mut out = EMPTY;
+    let end = frames::write_frame(f, &mut out[..s.len() - 1]);
+    end == 0 && out == EMPTY
 }
 
-fn end_in(area: &[u8; 80]) -> usize {
-    frames::read_front(area).end
+// Where the frame ends with which the bytes begin.
+fn end_of(s: &[u8]) -> Option<usize> {
+    Some(frames::read_front(s)?.end)
 }
 
 // The reader of a front finds where the frame ends, also where other bytes follow.
 fn ends(s: &[u8]) -> bool {
-    let longer = lay(s, 0, empty());
-    let alone = frames::read_front(s);
-    (alone.end == s.len()) & (end_in(&longer) == s.len())
+    end_of(s) == Some(s.len()) && end_of(&lay(s, 0, EMPTY)) == Some(s.len())
 }
 
-fn answer(s: &[u8]) -> u8 {
+fn answer_to(s: &[u8]) -> Answer {
     let f = frames::read_frame(s);
-    let head = f.head;
-    if let Head::Bad = head {
-        return 1;
-    }
-    if once(f, s) & twice(f, s) & never(f, s) & ends(s) {
-        0
+    if f.head == Head::Bad {
+        Answer::Refused
+    } else if once(f, s) && twice(f, s) && never(f, s) && ends(s) {
+        Answer::Frame
     } else {
-        9
+        Answer::Wrong
     }
 }
 
 // ---- The input
 
-// A hexadecimal digit's value; 16 for any other byte.
-fn digit(c: u8) -> u8 {
-    if c < 48 {
-        return 16;
+// A hexadecimal digit's value.
+fn digit(c: u8) -> Option<u8>
+    ensures { IfSome result (λ value. value < 16) }
+{
+    match c {
+        b'0'..=b'9' => Some(c - b'0'),
+        b'A'..=b'F' => Some(c - b'A' + 10),
+        _ => None,
     }
-    if c < 58 {
-        return c - 48;
-    }
-    if c < 65 {
-        return 16;
-    }
-    if c < 71 {
-        return c - 55;
-    }
-    16
 }
 
 // Where the digits with which a text begins end.
 fn digits_end(text: &[u8]) -> usize
     ensures { result ≤ length text.now }
 {
-    let mut end = 0;
-    while end < text.len() {
-        if 15 < digit(text[end]) {
-            return end;
-        }
-        end += 1;
-    }
-    end
+    text.iter()
+        .position(|c| digit(*c).is_none())
+        .unwrap_or(text.len())
 }
 
-// The bytes that a text of digits gives, in the front of an array, and zeros behind them.
-fn bytes_of(text: &[u8]) -> [u8; 400] {
+// The answer to the bytes that a text of digits gives; to more than 400 there is none.
+fn vector(text: &[u8]) -> Answer {
     let mut bytes = [0; 400];
-    let mut i = 0;
-    while i < text.len() / 2 {
-        if i < 400 {
-            bytes[i] = digit(text[2 * i]) % 16 * 16 + digit(text[2 * i + 1]) % 16;
-        }
-        i += 1;
+    for (byte, pair) in bytes.iter_mut().zip(text.chunks_exact(2)) {
+        *byte = digit(pair[0]).unwrap_or(0) * 16 + digit(pair[1]).unwrap_or(0);
     }
-    bytes
-}
-
-fn front(bytes: &[u8; 400], count: usize) -> u8 {
-    part(bytes, count)
-}
-
-fn part(bytes: &[u8], count: usize) -> u8 {
-    let start = 0;
-    if count <= bytes.len() {
-        return answer(&bytes[start..count]);
+    match bytes.get(..text.len() / 2) {
+        Some(s) => answer_to(s),
+        None => Answer::Wrong,
     }
-    9
 }
 
-fn vector(text: &[u8]) -> u8 {
-    let bytes = bytes_of(text);
-    let count = text.len() / 2;
-    front(&bytes, count)
-}
-
-// Where the line that goes on at a place ends: behind its newline, or where the text ends.
-fn line_end(text: &[u8], at: usize) -> usize
-    requires { at ≤ length text.now }
-    ensures { (at ≤ result) × (result ≤ length text.now) }
-{
-    let mut end = at;
-    while end < text.len() {
-        if text[end] == 10 {
-            return end + 1;
-        }
-        end += 1;
-    }
-    end
-}
-
-// One line; returns where the next begins.
-fn line(rt: &impl Print, text: &[u8]) -> io::Result<usize>
-    ensures { IfOk result (λ end. end ≤ length text.now) }
-{
-    let digits = digits_end(text);
-    let end = line_end(text, digits);
-    let start = 0;
-    let answered = vector(&text[start..digits]);
+fn line(rt: &impl Print, text: &[u8]) -> io::Result<()> {
+    let (digits, rest) = text.split_at(digits_end(text));
+    let answered = vector(digits).text();
     print!(rt; "{answered}")?;
-    rt.write_all(&text[digits..end])?;
-    Ok(end)
-}
-
-fn lines(rt: &impl Print, text: &[u8]) -> io::Result<()> {
-    let mut at = 0;
-    while at < text.len() {
-        let count = line(rt, &text[at..])?;
-        if count == 0 {
-            return Ok(());
-        }
-        at += count;
-    }
-    Ok(())
+    rt.write_all(rest)
 }
 
 // As many bytes of the input as there are, or as find room. How many.
@@ -213,7 +138,7 @@ fn read_full(from: &mut impl Read, all: &mut [u8]) -> io::Result<usize>
     while count < all.len() {
         let got = from.read(&mut all[count..])?;
         if got == 0 {
-            return Ok(count);
+            break;
         }
         count += got;
     }
@@ -221,13 +146,14 @@ fn read_full(from: &mut impl Read, all: &mut [u8]) -> io::Result<usize>
 }
 
 fn run(rt: &impl Print, from: &mut impl Read, all: &mut [u8]) -> io::Result<()> {
-    let start = 0;
     let count = read_full(from, all)?;
-    lines(rt, &all[start..count])
+    for text in all[..count].split_inclusive(|c| *c == b'\n') {
+        line(rt, text)?;
+    }
+    Ok(())
 }
 
 fn main(rt: HostRuntime) -> io::Result<()> {
     let mut space = [0u8; 65536];
-    let mut input = rt.stdin();
-    run(&rt, &mut input, &mut space)
+    run(&rt, &mut rt.stdin(), &mut space)
 }

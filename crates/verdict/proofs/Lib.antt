@@ -1,1 +1,2 @@
 pub mod Ruled
+pub mod Tells

@@ -16,8 +16,7 @@ use Rattle.frames.specs.declared.Item.{Item}
 use Rattle.frames.specs.declared.Head.{Head}
 use Rattle.frames.specs.declared.Head.TheVariants.{Bad, Submit, Forward, ShardAppend, ExecNotif, Executed, Response}
 use Rattle.entry.specs.declared.Entry.{Entry}
-use Rattle.verdict.specs.declared.Verdict.{Verdict}
-use Rattle.verdict.specs.Model.{next_of, floor_of, refuse_of, new_of, held_of, judge_submit, judge_forward, judge_exec_notif, judge_executed, judge_of}
+use Rattle.verdict.specs.Model.{Verdict, next_of, floor_of, refuse_of, new_of, held_of, judge_submit, judge_forward, judge_exec_notif, judge_executed, judge_of}
 
 -- ---- next_of, floor_of: one law each, of the element that both contracts cite
 

@@ -1,6 +1,6 @@
 -- What a frame comes to, on the records as they lie, for every input: each refusal in its place, or the entry as it then stands.
 -- Assumes nothing.
-use Rattle.std.specs.Prelude.{Bool, true, false, not, ◌&&◌, List, ℕ, ◌+◌, get_or}
+use Rattle.std.specs.Prelude.{Bool, true, false, not, ◌&&◌, List, ℕ, ◌+◌, get_or, Result, Ok, Err}
 use Rattle.rules.specs.Lists.{If◌then◌else◌, ◌<?◌, ◌≤?◌, ◌=?◌}
 use Rattle.rules.specs.Answers.{done, breaks_rule, not_for_me, below_floor, too_early, log_full, not_in_log, too_late, does_not_fit}
 use Rattle.rules.specs.Board.{log_size}
@@ -9,7 +9,20 @@ use Rattle.frames.specs.declared.Head.{Head}
 use Rattle.frames.specs.declared.Head.TheVariants.{Bad, Submit, Forward, ShardAppend, ExecNotif, Executed, Response}
 use Rattle.entry.specs.declared.Entry.{Entry}
 use Rattle.entry.specs.Model.{in_mask, insert_of, touched_of, part_on, fits_of, no_entry, new_entry_of, same_write_of, heard_from_of, finished_of}
-use Rattle.verdict.specs.declared.Verdict.{Verdict}
+use Rattle.refusal.specs.declared.Refusal.{Refusal}
+use Rattle.refusal.specs.Number.{number_of}
+use Rattle.verdict.specs.declared.Change.{Change}
+
+-- What a frame comes to: a refusal's number; or 0, with the entry that the frame is about as it then stands, the log's length then,
+-- the shards whose queues change, the ack that may raise the client's floor (0 raises none), and whether the entry is sent on.
+pub record Verdict : Type 0 where
+  pub answer : ℕ
+  pub entry : Entry
+  pub fresh : Bool
+  pub len : ℕ
+  pub shards : ℕ
+  pub ack : ℕ
+  pub sends : Bool
 
 -- ---- A client's numbers
 
@@ -24,6 +37,20 @@ floor_of floor client = get_or floor client 0
 
 unfoldable pub refuse_of : ℕ → Verdict
 refuse_of answer = record { answer = answer; entry = no_entry; fresh = false; len = 0; shards = 0; ack = 0; sends = false }
+
+-- what a judgement's result shows
+abbrev pub shown_verdict : Result Change Refusal → Verdict
+shown_verdict (Ok change) =
+    record {
+      answer = done;
+      entry = change.entry;
+      fresh = change.fresh;
+      len = change.len;
+      shards = change.shards;
+      ack = change.ack;
+      sends = change.sends;
+    }
+shown_verdict (Err refusal) = refuse_of (number_of refusal)
 
 unfoldable pub new_of : ℕ → ℕ → ℕ → ℕ → ℕ → List Item → ℕ → Verdict
 new_of m client number ack count items len =
@@ -100,3 +127,8 @@ judge_of (ExecNotif shard ind) count items n m own floor next len held e =
 judge_of (Executed ind) count items n m own floor next len held e =
     If own <? n then judge_executed m count items len held e else refuse_of not_for_me
 judge_of (Response client number) count items n m own floor next len held e = refuse_of not_for_me
+
+-- a choice between two values, opened where a goal says so
+unfoldable pub choosing : Unit {0}
+unfolding If◌then◌else◌
+choosing = tt

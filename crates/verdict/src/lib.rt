@@ -1,19 +1,19 @@
-// What a frame comes to at a board: the refusal that 01's table gives first, or the entry that the frame is about, as it then stands.
-// All is decided here on small parts, an entry, the client's floor and next number, the log's length; no board is in sight.
+// What a frame comes to at a board: the refusal that 01's table gives first, or what it changes about its entry.
+// All is decided here on small parts, an entry, the clients' floors and next numbers, the log's length; no board is in sight.
 // Each function's result is determined for every input by a function of specs/Model.antt.
 #![tactic(auto)]
 
-ghost use Rattle.std.specs.Prelude.{◌≡◌, true, false};
-ghost use Rattle.verdict.specs.Model.{next_of, floor_of, refuse_of, new_of, held_of, judge_submit, judge_forward, judge_exec_notif, judge_executed, judge_of};
+ghost use Rattle.std.specs.Prelude.{◌≡◌, true, false, get_or};
+ghost use Rattle.verdict.specs.Model.{shown_verdict, new_of, held_of, judge_submit, judge_forward, judge_exec_notif, judge_executed, judge_of};
 
 use entry::Entry;
-use frames::{Head, Item, LogNumber};
+use frames::{Frame, Head, Items, LogNumber};
+use refusal::Refusal;
 
-// What a frame comes to: a refusal's number; or 0, with the entry that the frame is about as it then stands, the log's length then,
+// What a frame that is taken changes: the entry that it is about as it then stands, whether the entry is new, the log's length then,
 // the shards whose queues change, the ack that may raise the client's floor (0 raises none), and whether the entry is sent on.
 #[derive(Clone, Copy)]
-pub struct Verdict {
-    pub answer: u8,
+pub struct Change {
     pub entry: Entry,
     pub fresh: bool,
     pub len: LogNumber,
@@ -24,293 +24,232 @@ pub struct Verdict {
 
 // ---- A client's numbers
 
-// high + 1
-pub fn next_of(next: [u32; 16], client: u8) -> u32
-    ensures { result ≡ next_of next client }
+// What a column of the clients' numbers holds for a client, as its floor or its next number, which is high + 1; `none` for a client
+// that it has no place for.
+pub fn of_client<T: Copy>(column: &[T], client: u8, none: T) -> T
+    ensures { result ≡ get_or column.now client none }
 {
-    let at = client as usize;
-    if at < 16 { next[at] } else { 0 }
-}
-
-pub fn floor_of(floor: [u16; 16], client: u8) -> u16
-    ensures { result ≡ floor_of floor client }
-{
-    let at = client as usize;
-    if at < 16 { floor[at] } else { 0 }
+    column.get(client as usize).copied().unwrap_or(none)
 }
 
 // ---- The kinds
 
-fn refuse(answer: u8) -> Verdict
-    ensures { result ≡ refuse_of answer }
-{
-    let e = entry::no_entry();
-    Verdict {
-        answer: answer,
-        entry: e,
-        fresh: false,
-        len: 0,
-        shards: 0,
-        ack: 0,
-        sends: false,
-    }
-}
-
-// "New: append and queue." Full: 5. No Forward meets a full log, since it names a log number up to 255.
-fn judge_new(
-    m: u8,
+// A client's write, as a Submit or a Forward carries it.
+#[derive(Clone, Copy)]
+struct Write {
     client: u8,
     number: u16,
     ack: u16,
-    count: u8,
-    items: [Item; 4],
-    len: LogNumber,
-) -> Verdict
-    ensures { result ≡ new_of m client number ack count items len }
-{
-    if 256 <= len {
-        return refuse(5);
-    }
-    let e = entry::new_entry(m, client, number, count, items);
-    Verdict {
-        answer: 0,
-        entry: e,
-        fresh: true,
-        len: len + 1,
-        shards: e.remaining,
-        ack: ack,
-        sends: true,
-    }
+    list: Items,
 }
 
-// Held: the entry as it stands, if it has this client, number and operations; otherwise 8.
-fn judge_held(
-    client: u8,
-    number: u16,
-    ack: u16,
-    count: u8,
-    items: [Item; 4],
-    len: LogNumber,
-    held: bool,
-    e: Entry,
-) -> Verdict
-    ensures { result ≡ held_of client number ack count items len held e }
-{
-    let same = held & e.same_write(client, number, count, items);
-    if !same {
-        return refuse(8);
+impl Write {
+    // "New: append and queue." Full: 5. No Forward meets a full log, since it names a log number up to 255.
+    #[tactic(auto, unfolding(crate::specs::Model::choosing, crate::specs::Model::new_of))]
+    fn appended(&self, m: u8, len: LogNumber) -> Result<Change, Refusal>
+        ensures { shown_verdict result ≡ new_of m self.now.client self.now.number self.now.ack self.now.list.count self.now.list.items len }
+    {
+        if 256 <= len {
+            return Err(Refusal::LogFull);
+        }
+        let entry = entry::new_entry(m, self.client, self.number, self.list);
+        Ok(Change {
+            entry,
+            fresh: true,
+            len: len + 1,
+            shards: entry.remaining,
+            ack: self.ack,
+            sends: true,
+        })
     }
-    Verdict {
-        answer: 0,
-        entry: e,
-        fresh: false,
-        len: len,
-        shards: 0,
-        ack: ack,
-        sends: true, // PRE or EXE: a repeat is not dropped
-    }
-}
 
-// Submit at board 1: 3, 4, 8, 5.
-fn judge_submit(
-    m: u8,
-    client: u8,
-    number: u16,
-    ack: u16,
-    count: u8,
-    items: [Item; 4],
-    low: u16,
-    next: u32,
-    len: LogNumber,
-    held: bool,
-    e: Entry,
-) -> Verdict
-    ensures { result ≡ judge_submit m client number ack count items low next len held e }
-{
-    let want = number as u32;
-    if number < low {
-        return refuse(3);
+    // Held: the entry as it stands, if it has this client, number and operations; otherwise 8.
+    #[tactic(auto, unfolding(crate::specs::Model::choosing, crate::specs::Model::held_of))]
+    fn repeated(&self, len: LogNumber, held: bool, e: &Entry) -> Result<Change, Refusal>
+        ensures { shown_verdict result ≡ held_of self.now.client self.now.number self.now.ack self.now.list.count self.now.list.items len held e.now }
+    {
+        if !(held && e.same_write(self.client, self.number, self.list)) {
+            return Err(Refusal::DoesNotFit);
+        }
+        Ok(Change {
+            entry: *e,
+            fresh: false,
+            len,
+            shards: 0,
+            ack: self.ack, // a held number's ack counts as a new one's does
+            sends: true, // PRE or EXE: a repeat is not dropped
+        })
     }
-    if next < want {
-        return refuse(4);
-    }
-    if want < next {
-        return judge_held(client, number, ack, count, items, len, held, e);
-    }
-    judge_new(m, client, number, ack, count, items, len)
-}
 
-// Forward at board i ≥ 2: 4, 8.
-fn judge_forward(
-    m: u8,
-    log_number: LogNumber,
-    client: u8,
-    number: u16,
-    ack: u16,
-    count: u8,
-    items: [Item; 4],
-    next: u32,
-    len: LogNumber,
-    e: Entry,
-) -> Verdict
-    ensures { result ≡ judge_forward m log_number client number ack count items next len e }
-{
-    let want = number as u32;
-    if len < log_number {
-        return refuse(4);
+    // Submit at board 1: 3, 4, 8, 5.
+    #[tactic(auto, unfolding(crate::specs::Model::choosing, crate::specs::Model::judge_submit))]
+    fn submitted(
+        &self,
+        m: u8,
+        low: u16,
+        next: u32,
+        len: LogNumber,
+        held: bool,
+        e: &Entry,
+    ) -> Result<Change, Refusal>
+        ensures { shown_verdict result ≡ judge_submit m self.now.client self.now.number self.now.ack self.now.list.count self.now.list.items low next len held e.now }
+    {
+        let number = self.number as u32;
+        if self.number < low {
+            return Err(Refusal::BelowFloor);
+        }
+        if next < number {
+            return Err(Refusal::TooEarly);
+        }
+        if number < next {
+            return self.repeated(len, held, e);
+        }
+        self.appended(m, len)
     }
-    if log_number < len {
-        return judge_held(client, number, ack, count, items, len, true, e);
+
+    // Forward at board i ≥ 2: 4, 8.
+    #[tactic(auto, unfolding(crate::specs::Model::choosing, crate::specs::Model::judge_forward))]
+    fn forwarded(
+        &self,
+        m: u8,
+        log_number: LogNumber,
+        next: u32,
+        len: LogNumber,
+        e: &Entry,
+    ) -> Result<Change, Refusal>
+        ensures { shown_verdict result ≡ judge_forward m log_number self.now.client self.now.number self.now.ack self.now.list.count self.now.list.items next len e.now }
+    {
+        let number = self.number as u32;
+        if len < log_number {
+            return Err(Refusal::TooEarly);
+        }
+        if log_number < len {
+            return self.repeated(len, true, e);
+        }
+        if number != next {
+            return Err(Refusal::DoesNotFit);
+        }
+        self.appended(m, len)
     }
-    if want != next {
-        return refuse(8);
-    }
-    judge_new(m, client, number, ack, count, items, len)
 }
 
 // ExecNotif at the tail: 6, 7, 8. "strike the shard from remaining, store the reads. When none remains: EXE, and Executed goes to n−1."
+#[tactic(auto, unfolding(crate::specs::Model::choosing, crate::specs::Model::judge_exec_notif))]
 fn judge_exec_notif(
     m: u8,
     shard: u8,
-    count: u8,
-    reads: [Item; 4],
+    reads: Items,
     len: LogNumber,
     held: bool,
-    e: Entry,
-) -> Verdict
-    ensures { result ≡ judge_exec_notif m shard count reads len held e }
+    e: &Entry,
+) -> Result<Change, Refusal>
+    ensures { shown_verdict result ≡ judge_exec_notif m shard reads.count reads.items len held e.now }
 {
     if !held {
-        return refuse(6);
+        return Err(Refusal::NotInLog);
     }
     if !entry::in_mask(e.remaining, shard) {
-        return refuse(7);
+        return Err(Refusal::TooLate);
     }
-    let operations = e.items;
-    let p = entry::part_on(m, shard, e.count, operations);
-    let xs = p.items;
-    if !entry::fits(p.count, xs, count, reads) {
-        return refuse(8);
+    if !entry::fits(entry::part_on(m, shard, e.list()), reads) {
+        return Err(Refusal::DoesNotFit);
     }
-    let heard = e.heard_from(shard, count, reads);
-    let shards = entry::insert(0, shard);
-    Verdict {
-        answer: 0,
+    let heard = e.heard_from(shard, reads);
+    Ok(Change {
         entry: heard,
         fresh: false,
-        len: len,
-        shards: shards,
+        len,
+        shards: entry::insert(0, shard),
         ack: 0,
         sends: heard.exe,
-    }
+    })
 }
 
 // Executed at board i < n: 6, 7, 8. "Take up to the log number on each touched shard's queue; EXE, store the reads, remaining empty."
+#[tactic(auto, unfolding(crate::specs::Model::choosing, crate::specs::Model::judge_executed))]
 fn judge_executed(
     m: u8,
-    count: u8,
-    reads: [Item; 4],
+    reads: Items,
     len: LogNumber,
     held: bool,
-    e: Entry,
-) -> Verdict
-    ensures { result ≡ judge_executed m count reads len held e }
+    e: &Entry,
+) -> Result<Change, Refusal>
+    ensures { shown_verdict result ≡ judge_executed m reads.count reads.items len held e.now }
 {
     if !held {
-        return refuse(6);
+        return Err(Refusal::NotInLog);
     }
     if e.exe {
-        return refuse(7);
+        return Err(Refusal::TooLate);
     }
-    let operations = e.items;
-    if !entry::fits(e.count, operations, count, reads) {
-        return refuse(8);
+    if !entry::fits(e.list(), reads) {
+        return Err(Refusal::DoesNotFit);
     }
-    let done = e.finished(count, reads);
-    let shards = entry::touched(m, e.count, operations);
-    Verdict {
-        answer: 0,
-        entry: done,
+    Ok(Change {
+        entry: e.finished(reads),
         fresh: false,
-        len: len,
-        shards: shards,
+        len,
+        shards: entry::touched(m, e.list()),
         ack: 0,
         sends: true,
-    }
+    })
 }
 
-// 1, 2, then the kind's own. e is the entry at the log number that the frame is about; held: that number is in the log.
+// 1, 2, then the kind's own. e is the entry at the log number that the frame is about; held: that number is in the log. The two are not one
+// Option<Entry>: a Forward is judged by e also where held is false (Write::forwarded), and an Option would ask more of callers.
+#[tactic(auto, unfolding(crate::specs::Model::choosing, crate::specs::Model::judge_of))]
 pub fn judge(
-    h: Head,
-    count: u8,
-    items: [Item; 4],
+    f: Frame,
     n: u8,
     m: u8,
     own: u8,
-    floor: [u16; 16],
-    next: [u32; 16],
+    floor: &[u16; 16],
+    next: &[u32; 16],
     len: LogNumber,
     held: bool,
-    e: Entry,
-) -> Verdict
-    ensures { result ≡ judge_of h count items n m own floor next len held e }
+    e: &Entry,
+) -> Result<Change, Refusal>
+    ensures { shown_verdict result ≡ judge_of f.head f.list.count f.list.items n m own floor.now next.now len held e.now }
 {
-    match h {
-        Head::Bad => refuse(1),
+    match f.head {
+        Head::Bad => Err(Refusal::BreaksRule),
         Head::Submit {
             client,
             number,
             ack,
-        } => {
-            if own != 1 {
-                return refuse(2);
-            }
-            let low = floor_of(floor, client);
-            let next = next_of(next, client);
-            judge_submit(
-                m, client, number, ack, count, items, low, next, len, held, e,
-            )
+        } if own == 1 => {
+            let write = Write {
+                client,
+                number,
+                ack,
+                list: f.list,
+            };
+            let low = of_client(floor, client, 0);
+            let next = of_client(next, client, 0);
+            write.submitted(m, low, next, len, held, e)
         }
         Head::Forward {
             log_number,
             client,
             number,
             ack,
-        } => {
-            if own < 2 {
-                return refuse(2);
-            }
-            let next = next_of(next, client);
-            judge_forward(
-                m, log_number, client, number, ack, count, items, next, len, e,
-            )
+        } if 2 <= own => {
+            let write = Write {
+                client,
+                number,
+                ack,
+                list: f.list,
+            };
+            let next = of_client(next, client, 0);
+            write.forwarded(m, log_number, next, len, e)
         }
-        Head::ShardAppend {
-            shard: _,
-            log_number: _,
-            sn: _,
-        } => refuse(2),
-        Head::ExecNotif {
-            shard,
-            log_number: _,
-        } => {
-            if own != n {
-                return refuse(2);
-            }
-            if m < shard {
-                return refuse(2);
-            }
-            judge_exec_notif(m, shard, count, items, len, held, e)
+        Head::ExecNotif { shard, .. } if own == n && shard <= m => {
+            judge_exec_notif(m, shard, f.list, len, held, e)
         }
-        Head::Executed { log_number: _ } => {
-            if n <= own {
-                return refuse(2);
-            }
-            judge_executed(m, count, items, len, held, e)
-        }
-        Head::Response {
-            client: _,
-            number: _,
-        } => refuse(2),
+        Head::Executed { .. } if own < n => judge_executed(m, f.list, len, held, e),
+        // These are for no board. In one arm with the last, the proof does not see that the tests above it failed.
+        Head::ShardAppend { .. } | Head::Response { .. } => Err(Refusal::NotForMe),
+        // for another board
+        _ => Err(Refusal::NotForMe),
     }
 }

@@ -10,7 +10,7 @@ use Rattle.rules.specs.Transactions.{Operation}
 use Rattle.rules.specs.Frames.{ok_operation, ok_operations}
 use Rattle.rules.proofs.Lists.{and_l, and_r}
 use Rattle.frames.specs.View.{as_operation, operations_of, operation_items, filled}
-use Rattle.frames.proofs.Items.{filled_take, operations_length, operations_back}
+use Rattle.frames.proofs.Slots.{filled_take, operations_length, operations_back}
 
 -- "c is 1..4"
 pub some_operations : (os : List Operation) → T (ok_operations os) → (1 ≤ length os) × (length os ≤ 4)

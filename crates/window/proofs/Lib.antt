@@ -3,3 +3,5 @@ pub mod Items
 pub mod Means
 pub mod Ruled
 pub mod Determined
+pub mod Kept
+pub mod Tells

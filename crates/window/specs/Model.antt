@@ -1,15 +1,16 @@
 -- What the methods of a window give, on the window as it lies.
 -- Assumes nothing.
-use Rattle.std.specs.Prelude.{Bool, ◌&&◌, List, [], ℕ, zero, suc, ◌+◌, ◌-◌, ◌%◌, get_or, set, replicate}
+use Rattle.std.specs.Prelude.{Bool, ◌&&◌, List, [], ℕ, zero, suc, ◌+◌, ◌-◌, ◌%◌, get_or, set, replicate, Option, Some, None, Result, Ok, Err}
 use Rattle.frames.specs.declared.Item.{Item}
+use Rattle.frames.specs.declared.Items.{Items}
 use Rattle.frames.specs.Frames.{no_item}
 use Rattle.rules.specs.Lists.{If◌then◌else◌, ◌≤?◌, ◌=?◌}
 use Rattle.rules.specs.Answers.{done, window_full, numbers_used_up}
 use Rattle.rules.specs.Session.{window_size}
+use Rattle.refusal.specs.declared.Refusal.{Refusal}
+use Rattle.refusal.specs.Number.{number_of}
 use Rattle.window.specs.declared.Slot.{Slot}
 use Rattle.window.specs.declared.Window.{Window}
-use Rattle.window.specs.declared.Least.{Least}
-use Rattle.window.specs.declared.Invoked.{Invoked}
 
 abbrev pub free : Slot
 free = record { number = 0; count = 0; items = replicate 4 no_item }
@@ -49,11 +50,12 @@ first_from slots number (suc more) = If is_outstanding slots number then number 
 unfoldable pub smallest_of : Window → ℕ
 smallest_of w = first_from w.slots (oldest w.next) (span w.next)
 
-unfoldable pub least_of : Window → Least
-least_of w = record { window = w; number = smallest_of w }
-
 unfoldable pub kept_of : Window → ℕ → Slot
 kept_of w number = If is_outstanding w.slots number then slot_of w.slots number else free
+
+-- the list that a slot has; a free one has none
+unfoldable pub list_in : Slot → Option Items
+list_in s = If 1 ≤? s.count then Some (record { count = s.count; items = s.items }) else None
 
 -- a window with something else in the slot of a number
 unfoldable pub storing : ℕ → Slot → ℕ → Window → Window
@@ -61,6 +63,17 @@ storing number s next w = record { next = next; slots = set w.slots (number % 8)
 
 unfoldable pub answered_of : Window → ℕ → Window
 answered_of w number = If is_outstanding w.slots number then storing number free w.next w else w
+
+-- a window after an invocation, the answer, and the number that was taken; of a refusal the window as before, and 0
+pub record Invoked : Type 0 where
+  pub window : Window
+  pub answer : ℕ
+  pub number : ℕ
+
+-- what the result of an invocation shows: "Answer 0 means the step was taken"; of a refusal the number is 0
+abbrev pub invoked_shown : Window → Result ℕ Refusal → Invoked
+invoked_shown w (Ok number) = record { window = w; answer = done; number = number }
+invoked_shown w (Err refusal) = record { window = w; answer = number_of refusal; number = 0 }
 
 abbrev pub denied : Window → ℕ → Invoked
 denied w refusal = record { window = w; answer = refusal; number = 0 }

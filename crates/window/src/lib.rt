@@ -1,14 +1,15 @@
-// The window of a client session, as a value: the next number, and each outstanding number with its operations. A method hands the window
-// back. What the methods mean in the rules' words is in specs/View.antt and proved in proofs/Means.antt.
+// The window of a client session: the next number, and each outstanding number with its operations. What the methods mean in the rules' words
+// is in specs/View.antt and proved in proofs/Means.antt.
 #![tactic(auto)]
 
-ghost use Rattle.std.specs.Prelude.{◌≡◌};
-ghost use Rattle.window.specs.Model.{waits, free, oldest, least_of, kept_of, answered_of, denied, invoked_of, fresh_window};
+ghost use Rattle.std.specs.Prelude.{◌≡◌, ◌↔◌, IsSome, IsTrue, OnErr};
+ghost use Rattle.window.specs.Model.{waits, free, slot_of, is_outstanding, smallest_of, kept_of, list_in, answered_of, invoked_of, invoked_shown, fresh_window};
 
-use frames::Item;
+use frames::{Item, Items};
+use refusal::Refusal;
 
 // An outstanding number with its operations, as a frame carries them: count of them, 1 to 4, and zero behind these.
-// A slot with count 0 is free, and is zero throughout.
+// A slot with count 0 is free, and is zero throughout. C lays the record out: count and items stay flat, not a list in one field.
 #[repr(C)]
 #[derive(Clone, Copy)]
 pub struct Slot {
@@ -26,141 +27,113 @@ pub struct Window {
     pub slots: [Slot; 8],
 }
 
-// A window with its smallest outstanding number.
-#[derive(Clone, Copy)]
-pub struct Least {
-    pub window: Window,
-    pub number: u16,
-}
-
-// A window after an invocation, the answer, and the number that was taken; of a refusal the window as before, and 0.
-#[derive(Clone, Copy)]
-pub struct Invoked {
-    pub window: Window,
-    pub answer: u8,
-    pub number: u16,
-}
-
-// A free slot.
-fn free_slot() -> Slot
-    ensures { result ≡ free }
-{
-    let items = [frames::no_item(); 4];
-    Slot {
-        number: 0,
-        count: 0,
-        items: items,
-    }
-}
-
 impl Slot {
-    // Whether this number is outstanding here.
-    fn waits(self, number: u16) -> bool
-        ensures { result ≡ waits self number }
+    // A free slot.
+    fn free() -> Slot
+        ensures { result ≡ free }
     {
-        (self.number == number) & (1 <= self.count)
+        Slot {
+            number: 0,
+            count: 0,
+            items: [frames::no_item(); 4],
+        }
     }
-}
 
-// The oldest number that the window reaches back to: 8 before next, or the first.
-fn oldest_of(next: u16) -> u16
-    ensures { result ≡ oldest next }
-{
-    if next < 8 { 0 } else { next - 8 }
+    // Whether this number is outstanding here.
+    fn waits(&self, number: u16) -> bool
+        ensures { result ≡ waits self.now number }
+    {
+        self.number == number && self.count >= 1
+    }
 }
 
 impl Window {
+    // A window that has taken no number.
+    #[tactic(auto, unfolding(crate::specs::Model::fresh_window))]
     pub fn new() -> Window
         ensures { result ≡ fresh_window }
     {
-        let free = free_slot();
-        let slots = [free; 8];
         Window {
             next: 0,
-            slots: slots,
+            slots: [Slot::free(); 8],
         }
     }
 
-    // "the smallest outstanding number"; the next one where nothing is outstanding. Means smallest of the rules: smallest_means.
-    pub fn smallest_outstanding(self) -> Least
-        ensures { result ≡ least_of self }
+    // A number's slot.
+    fn slot_of(&self, number: u16) -> &Slot
+        ensures { result.now ≡ slot_of self.now.slots number }
     {
-        let next = self.next;
-        let mut number = oldest_of(next);
-        while number < next {
-            let slot = self.slots[(number % 8) as usize];
-            if slot.waits(number) {
-                break;
+        &self.slots[(number % 8) as usize]
+    }
+
+    // Whether this number is outstanding.
+    #[tactic(auto, unfolding(crate::specs::Model::is_outstanding))]
+    fn is_outstanding(&self, number: u16) -> bool
+        ensures { result ≡ is_outstanding self.now.slots number }
+    {
+        self.slot_of(number).waits(number)
+    }
+
+    // "the smallest outstanding number"; the next one where nothing is outstanding. The oldest that the window reaches back to is 8 before next, or
+    // the first. Means smallest of the rules: smallest_means.
+    pub fn smallest_outstanding(&self) -> u16
+        ensures { result ≡ smallest_of self.now }
+    {
+        for number in self.next.saturating_sub(8)..self.next {
+            if self.is_outstanding(number) {
+                return number;
             }
-            number = number + 1;
         }
-        Least {
-            window: self,
-            number: number,
-        }
+        self.next
     }
 
-    // "the kept operations" of an outstanding number; a free slot for any other number. Means operations_of of the rules: kept_means.
-    pub fn kept(self, number: u16) -> Slot
-        ensures { result ≡ kept_of self number }
+    // "the kept operations" of an outstanding number; none of any other number. Means operations_of of the rules: kept_means.
+    #[tactic(auto, unfolding(crate::specs::Model::is_outstanding))]
+    pub fn kept(&self, number: u16) -> Option<Items>
+        ensures value { result ≡ list_in (kept_of self.now number) }
+        ensures outstanding { IsSome result ↔ IsTrue (is_outstanding self.now.slots number) }
     {
-        let slot = self.slots[(number % 8) as usize];
+        let slot = self.slot_of(number);
         if slot.waits(number) {
-            slot
+            Some(Items {
+                count: slot.count,
+                items: slot.items,
+            })
         } else {
-            free_slot()
+            None
         }
     }
 
-    // "leaves the state as before"
-    fn denied(self, answer: u8) -> Invoked
-        ensures { result ≡ denied self answer }
+    // "Invoke takes the next number, makes it outstanding". Refusals 10, 9; a refusal uses up no number.
+    // Means invoked of the rules: invoked_means, invoked_held.
+    pub fn invoke(&mut self, list: Items) -> Result<u16, Refusal>
+        ensures value { invoked_shown self.new result ≡ invoked_of self.old list.count list.items }
+        ensures refusal { OnErr result (self.new ≡ self.old) }
     {
-        Invoked {
-            window: self, // no number is used up
-            answer: answer,
-            number: 0,
+        let number = self.next;
+        if number >= 65535 {
+            return Err(Refusal::NumbersUsedUp);
         }
-    }
-
-    // "Invoke takes the next number, makes it outstanding". Refusals 10, 9. Means invoked of the rules: invoked_means, invoked_held.
-    pub fn invoke(self, count: u8, items: [Item; 4]) -> Invoked
-        ensures { result ≡ invoked_of self count items }
-    {
-        let next = self.next;
-        if 65535 <= next {
-            return self.denied(10);
+        let reach = number - self.smallest_outstanding();
+        if reach >= 8 {
+            return Err(Refusal::WindowFull);
         }
-        let least = self.smallest_outstanding();
-        if (least.number as u32) + 8 <= (next as u32) {
-            return self.denied(9);
-        }
-        let mut after = self;
-        after.slots[(next % 8) as usize] = Slot {
-            number: next,
-            count: count,
-            items: items,
+        let Items { count, items } = list;
+        self.slots[(number % 8) as usize] = Slot {
+            number,
+            count,
+            items,
         };
-        after.next = next + 1;
-        Invoked {
-            window: after,
-            answer: 0,
-            number: next,
-        }
+        self.next += 1;
+        Ok(number)
     }
 
     // "makes its number outstanding no more"; any other number changes nothing. Means answered of the rules: answered_means, answered_held.
-    pub fn answered(self, number: u16) -> Window
-        ensures { result ≡ answered_of self number }
+    pub fn answered(&mut self, number: u16)
+        ensures { self.new ≡ answered_of self.old number }
     {
-        let i = (number % 8) as usize;
-        let slot = self.slots[i];
-        if slot.waits(number) {
-            let mut after = self;
-            after.slots[i] = free_slot();
-            after
-        } else {
-            self
+        if self.is_outstanding(number) {
+            self.slots[(number % 8) as usize] = Slot::free();
         }
     }
 }

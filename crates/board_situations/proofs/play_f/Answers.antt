@@ -5,8 +5,10 @@ use Rattle.board_situations.proofs.play_f.Goals as goal
 
 pub returns : goal.returns
 returns c =
-    played_F c.start-started.result c.step-a.result c.step-b.result c.step-c.result c.step-d.result c.step-e.result _ _ _ _ _
-    c.start-started.ensures c.step-a.ensures.value.0 c.step-b.ensures.value.0 c.step-c.ensures.value.0 c.step-d.ensures.value.0
-    c.step-e.ensures.value.0 (search rules) (omega (arith, c.step-a.auto.out)) (omega (arith, c.step-a.auto.out, c.step-b.auto.out))
+    rw (c.answer-first.ensures, c.answer-second.ensures)
+    (played_F _ _ _ _ _ _ c.step-a.result c.step-b.result c.step-c.result c.step.result c.step-2.result _ _ _ _ _ c.fresh-board.ensures
+    (rw c.forward.ensures at c.step-a.ensures.value.0) (rw c.forward-2.ensures at c.step-b.ensures.value.0) (rw c.forward-3.ensures at c.step-c.ensures.value.0)
+    (rw c.notif.ensures at c.step.ensures.value.0) (rw c.notif-2.ensures at c.step-2.ensures.value.0)
+    (search rules) (omega (arith, c.step-a.auto.out)) (omega (arith, c.step-a.auto.out, c.step-b.auto.out))
     (omega (arith, c.step-a.auto.out, c.step-b.auto.out, c.step-c.auto.out))
-    (omega (arith, c.step-a.auto.out, c.step-b.auto.out, c.step-c.auto.out, c.step-d.auto.out))
+    (omega (arith, c.step-a.auto.out, c.step-b.auto.out, c.step-c.auto.out, c.step.auto.out)))

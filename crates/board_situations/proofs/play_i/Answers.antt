@@ -5,6 +5,7 @@ use Rattle.board_situations.proofs.play_i.Goals as goal
 
 pub returns : goal.returns
 returns c =
-    played_I c.start-started.result c.step-a.result c.step-b.result c.step-c.result _ _ _ c.start-started.ensures c.step-a.ensures.value.0
-    c.step-b.ensures.value.0 c.step-c.ensures.value.0 (search rules) (omega (arith, c.step-a.auto.out))
-    (omega (arith, c.step-a.auto.out, c.step-b.auto.out))
+    rw (c.answer-first.ensures, c.answer-second.ensures)
+    (played_I _ _ _ _ c.step-a.result c.step.result c.step-2.result _ _ _ c.fresh-board.ensures (rw c.submit.ensures at c.step-a.ensures.value.0)
+    c.step.ensures.value.0 c.step-2.ensures.value.0 (search rules) (omega (arith, c.step-a.auto.out))
+    (omega (arith, c.step-a.auto.out, c.step.auto.out)))

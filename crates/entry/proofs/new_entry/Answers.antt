@@ -5,4 +5,4 @@ use Rattle.entry.proofs.new_entry.Goals as goal
 
 pub returns : goal.returns
 unfolding new_entry_of
-returns c = simp (c.touched-remaining.ensures, c.no_item-z.ensures)
+returns c = simp (c.touched-remaining.ensures, c.no_item.ensures)

@@ -1,10 +1,17 @@
--- `touched` meets its contract: the four slots, last first, are the list of the first count (touched_slots).
+-- `touched` meets its contract: from the empty set on, the order in which the shards are inserted makes no difference (joined_all).
 -- Assumes nothing.
+use mathlib.Core.Path.{sym, ◌∙◌}
+use lib.ListN.{take}
+use Rattle.std.proofs.lemmas.List.{at_drop_all}
 use Rattle.entry.specs.Model.{touched_of}
-use Rattle.entry.proofs.Slots.{touched_slots}
-use borrow.Author.Rules.{rules}
+use Rattle.entry.proofs.Sets.{joined, joined_all}
 use Rattle.entry.proofs.touched.Goals as goal
+
+pub loop-operation-init : goal.loop-operation-init
+loop-operation-init c = joined_all c.args.m _
 
 pub returns : goal.returns
 unfolding touched_of
-returns c = simp (c.touch.ensures, c.touch-b.ensures, c.touch-c.ensures, c.touch-d.ensures) (touched_slots c.args.m c.args.count c.args.items (search rules))
+returns c =
+    let list = c.args.list in
+    sym (at_drop_all (joined c.args.m c.loop-operation.mask) (take list.count list.items) c.loop-operation.operation-index (rw c.as_slice-operation-items.ensures at c.loop-operation-test.false)) ∙ c.loop-operation.invariant

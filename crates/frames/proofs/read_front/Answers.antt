@@ -5,10 +5,10 @@ use Rattle.frames.specs.Frames.{read_front, accept}
 use Rattle.frames.proofs.Cases.{short}
 use Rattle.frames.proofs.read_front.Goals as goal
 
-pub returns-then-s-start : goal.returns-then-s-start
+pub returns-then-s : goal.returns-then-s
 unfolding read_front
-returns-then-s-start c = c.no_front.ensures ∙ sym (short _ c.args.s.now c.if-s-start.true)
+returns-then-s c = sym (short _ c.args.s.now c.if-s.true)
 
 pub returns : goal.returns
 unfolding read_front
-returns c = c.accepted.ensures ∙ ap (λ (f : Frame). accept f c.args.s.now) c.candidate-f.ensures
+returns c = c.accepted.ensures ∙ ap (λ (f : Frame). accept f c.args.s.now) c.candidate.ensures

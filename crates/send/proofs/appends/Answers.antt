@@ -1,30 +1,59 @@
--- `appends` meets its contract. The loop has sent to the shards up to `last`, and the out area is laid from these frames.
+-- `appends` meets its contract: in a turn the frame to the shard is sent or not (turn_sends, turn_skips).
 -- Assumes nothing.
-use mathlib.Core.Path.{◌≡◌, ◌∙◌, refl, ap}
+use mathlib.Core.Path.{◌≡◌, refl}
+use Prim.Native.Nat.{suc, ◌+◌, ◌-◌}
 use native.Mathlib.Omega.{arith}
-use native.Mathlib.Numerals.{add-one}
-use Prim.Native.Nat.{◌+◌}
 use lib.ListN.{length}
-use Rattle.send.specs.Model.{appends_to, bytes_of, laid}
-use Rattle.send.proofs.Room.{appends_few, appends_room}
-use Rattle.send.proofs.Lay.{laid_length, turned}
+use borrow.Author.Tests.{le-leb, lt-leb}
 use borrow.Author.Rules.{rules}
+use Rattle.send.specs.Model.{appends_to, bytes_of, laid, goes, append_at, append_frame}
+use Rattle.send.proofs.Room.{appends_few}
+use Rattle.send.proofs.Lay.{turn_sends, turn_skips}
 use Rattle.send.proofs.appends.Goals as goal
+use Rattle.send.proofs.appends.Goals.{then-in_mask+then-list-ge1, else-in_mask, else-in_mask-via-then-in_mask+else-list-ge1, else-in_mask-via-else-in_mask}
 
-pub loop-last-init : goal.loop-last-init
+pub loop-shard-init : goal.loop-shard-init
 unfolding appends_to bytes_of laid
-loop-last-init c = (search rules, search rules, refl, refl, refl, search rules)
+loop-shard-init c =
+    let h = c.default-sent.ensures in
+    record { room = search rules; sends = record { frames = h.0; bytes = h.1; out = refl } }
 
-pub more-s-requires : goal.more-s-requires
-more-s-requires c = let a = c.args in let l = c.loop-last in let e = a.e in omega (arith, appends_few e.remaining e.count e.items a.m a.log_number a.masks l.last, l.invariant.2)
+pub overflow_add-sent : goal.overflow_add-sent
+overflow_add-sent c =
+    let l = c.loop-shard in
+    let o = c.list-operations.result in
+    record { fits = omega (arith, appends_few c.args.e.now.remaining o.count o.items c.args.m c.args.log_number c.args.masks.now (l.shard - 1), l.invariant.sends.frames) }
 
-pub loop-last-preserved : goal.loop-last-preserved
-loop-last-preserved c = let a = c.args in let l = c.loop-last in let e = a.e in
-    let t = turned e.remaining e.count e.items a.m a.log_number a.masks l.last a.out.now l.out l.s.frames l.s.bytes l.invariant.5 l.invariant.1 l.invariant.2 l.invariant.3 l.invariant.4 (l.last + 1) (add-one l.last) _ _ _ _ _ c.part_on-p.ensures c.in_mask-remains.ensures refl c.sn_of-sn.ensures c.shard_append-f.ensures in
-    (search rules, l.invariant.1, rw add-one (c.more-s.ensures.frames ∙ t.0), rw add-one (c.more-s.ensures.bytes ∙ t.1), rw add-one (c.more-s.ensures.out ∙ t.2), l.invariant.5)
-
-pub shape_of-out : goal.shape_of-out
-shape_of-out c = let a = c.args in let l = c.loop-last in let e = a.e in ap length l.invariant.4 ∙ laid_length (appends_to e.remaining e.count e.items a.m a.log_number a.masks l.last) a.out.now (omega (arith, appends_room e.remaining e.count e.items a.m a.log_number a.masks l.last l.invariant.5, l.invariant.1))
-
-pub returns : goal.returns
-returns c = let l = c.loop-last in let h : l.last ≡ 8 = omega arith in rw (← h) (record { frames = l.invariant.2; bytes = l.invariant.3; out = l.invariant.4 })
+pub loop-shard-preserved : goal.loop-shard-preserved
+unfolding goes append_at append_frame
+loop-shard-preserved c =
+    let a = c.args in
+    let e = a.e.now in
+    let o = c.list-operations.result in
+    let l = c.loop-shard in
+    let four : length o.items ≡ 4 = search rules in
+    let this : l.shard ≡ suc (l.shard - 1) = omega arith in
+    let next : l.shard + 1 - 1 ≡ l.shard = omega arith in
+    elim c.if-in_mask.branch [
+      | then-in_mask+then-list-ge1 w ↦
+          record {
+            room = l.invariant.room;
+            sends =
+                rw (next, w.sent-is, w.out-is, w.write_behind.ensures.value, w.write_behind.ensures.out_after)
+                (turn_sends e.remaining o.count o.items a.m a.log_number a.masks.now (l.shard - 1) a.out.now l.out l.sent four l.invariant.room l.invariant.sends l.shard this
+                (rw (← c.in_mask.ensures, w.if-in_mask.true, ← c.part_on-list.ensures) (le-leb 1 _ w.if-list-ge1.true))
+                _
+                (rw (w.count_touching-sn.ensures, c.part_on-list.ensures)));
+          }
+      | else-in_mask w ↦
+          record {
+            room = l.invariant.room;
+            sends =
+                rw (next, w.sent-is, w.out-is)
+                (turn_skips e.remaining o.count o.items a.m a.log_number a.masks.now (l.shard - 1) a.out.now l.out l.sent four l.invariant.room l.invariant.sends l.shard this
+                (elim w.else-in_mask.branch [
+                  | else-in_mask-via-then-in_mask+else-list-ge1 v ↦ rw (← c.in_mask.ensures, v.if-in_mask.true, ← c.part_on-list.ensures) (lt-leb _ _ v.if-list-ge1.false)
+                  | else-in_mask-via-else-in_mask v ↦ rw (← c.in_mask.ensures, v.if-in_mask.false)
+                ]));
+          }
+    ]

@@ -1,13 +1,12 @@
--- `appends` meets its contract. The loop has sent to the shards up to `last`, and the out area is laid from these frames.
+-- `appends` meets its contract. The loop has sent to the shards below this one, and the out area is laid from these frames.
 -- Assumes nothing.
-use mathlib.Core.Path.{◌≡◌}
 use Prim.Native.Nat.{◌≤◌, ◌-◌}
 use lib.ListN.{length}
-use Rattle.send.specs.Model.{appends_to, bytes_of, laid}
+use Rattle.send.specs.Model.{appends_to, Sends}
 use Rattle.send.proofs.appends.Given as goal
 
-abbrev pub invariant-loop-last : goal.invariant-loop-last
-invariant-loop-last l = (l.last ≤ 8) × (68 ≤ length l.initial.out) × (l.s.frames ≡ length (appends_to l.left l.count l.items l.m l.log_number l.masks l.last)) × (l.s.bytes ≡ length (bytes_of (appends_to l.left l.count l.items l.m l.log_number l.masks l.last))) × (l.out ≡ laid (appends_to l.left l.count l.items l.m l.log_number l.masks l.last) l.initial.out) × (length l.items ≡ 4)
-
-abbrev pub decreases-loop-last : goal.decreases-loop-last
-decreases-loop-last l = 8 - l.last
+abbrev pub invariant-loop-shard : goal.invariant-loop-shard
+invariant-loop-shard l = record {
+  room : 68 ≤ length l.initial.out;
+  sends : Sends (appends_to l.e.remaining l.operations.count l.operations.items l.m l.log_number l.masks (l.shard - 1)) l.initial.out l.out l.sent;
+}

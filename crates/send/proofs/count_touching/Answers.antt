@@ -1,30 +1,20 @@
--- `count_touching` meets its contract. The loop has passed i masks, and what is still to be counted is `count_in` of the rest.
+-- `count_touching` meets its contract: the chain gives the masks in front that have the shard, and their number is count_in (count_is).
 -- Assumes nothing.
-use mathlib.Core.Path.{sym, ◌∙◌, ap}
-use native.Mathlib.Omega.{arith}
-use native.Mathlib.Nat.{add-zero}
+use mathlib.Core.Path.{◌∙◌}
 use Prim.Native.Nat.{◌+◌}
-use Rattle.rules.specs.Lists.{If◌then◌else◌}
-use Rattle.send.specs.Model.{count_in}
-use Rattle.send.proofs.Count.{count_turn, count_end, take_least}
-use borrow.Author.Rules.{rules}
+use lib.ListN.{take}
+use Rattle.std.proofs.Common.{rules, tests}
+use Rattle.std.proofs.lemmas.Iterator.{YieldsList-from_slice, YieldsList-from_take}
+use Rattle.std.proofs.lemmas.Iterator.Consumers.{YieldsList-at, YieldsList-from_filter, count_from_yields_List}
+use Rattle.entry.specs.Model.{in_mask}
+use Rattle.send.proofs.Count.{count_is}
 use Rattle.send.proofs.count_touching.Goals as goal
-use Rattle.send.proofs.count_touching.Goals.{then-in_mask, else-in_mask}
-
-pub loop-i-init : goal.loop-i-init
-loop-i-init c = (c.least-end.ensures, search rules, search rules, search rules, omega arith)
-
-pub loop-i-preserved : goal.loop-i-preserved
-unfolding If◌then◌else◌
-loop-i-preserved c = let a = c.args in let l = c.loop-i in (
-  l.invariant.0,
-  search rules,
-  elim c.if-in_mask.branch [ then-in_mask w ↦ omega (arith, w.count-is) | else-in_mask w ↦ omega (arith, w.count-is) ],
-  search rules,
-  count_turn a.shard c.least-end.result a.masks l.i l.count l.invariant.4 _ _ (omega arith) (omega (arith, l.invariant.0, l.invariant.3)) c.in_mask.ensures
-      (elim c.if-in_mask.branch [ then-in_mask w ↦ rw w.if-in_mask.true w.count-is | else-in_mask w ↦ rw w.if-in_mask.false (w.count-is ∙ sym (add-zero _)) ]),
-)
 
 pub returns : goal.returns
-returns c = let a = c.args in let l = c.loop-i in
-    count_end a.shard c.least-end.result a.masks l.i l.count l.invariant.4 (omega arith) ∙ ap (count_in a.shard) (take_least (a.log_number + 1) c.least-end.result a.masks (rw l.invariant.3 l.invariant.0))
+returns c =
+    let a = c.args in
+    count_from_yields_List c.filter.result c.count.result c.count.ensures.ran
+    (YieldsList-from_filter _ (λ mask. in_mask mask a.shard)
+    (YieldsList-at c.filter.ensures.source (YieldsList-from_take {s = c.take.result} (a.log_number + 1) (YieldsList-from_slice a.masks.now (cc)) (cc)))
+    c.filter.ensures.closure (λ x b q k. search (rules, tests)))
+    ∙ count_is a.shard (take (a.log_number + 1) a.masks.now)

@@ -6,7 +6,7 @@ use Rattle.shard.proofs.read_of.Goals as goal
 
 pub returns-then-not-cell : goal.returns-then-not-cell
 unfolding read_of If◌then◌else◌
-returns-then-not-cell c = simp (not-true c.args.cell.present c.if-not-cell.true)
+returns-then-not-cell c = simp (not-true c.args.cell.present c.if-not-cell.true, c.no_item.ensures)
 
 pub returns : goal.returns
 unfolding read_of If◌then◌else◌

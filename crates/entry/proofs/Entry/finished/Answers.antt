@@ -5,4 +5,4 @@ use Rattle.entry.proofs.Entry.finished.Goals as goal
 
 pub returns : goal.returns
 unfolding finished_of
-returns c = simp (c.stored-reads.ensures, c.no_item-z.ensures)
+returns c = simp (c.stored.ensures, c.no_item.ensures)

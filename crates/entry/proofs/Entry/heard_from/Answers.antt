@@ -5,4 +5,4 @@ use Rattle.entry.proofs.Entry.heard_from.Goals as goal
 
 pub returns : goal.returns
 unfolding heard_from_of
-returns c = simp (c.is_empty.ensures, c.stored-reads.ensures, c.strike-left.ensures)
+returns c = simp (c.is_empty.ensures, c.stored.ensures, c.strike-remaining.ensures)

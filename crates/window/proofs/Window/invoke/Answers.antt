@@ -1,30 +1,28 @@
 -- The two refusals in their order, then the number in its slot.
 -- Assumes nothing.
-use mathlib.Core.Path.{◌≡◌, ap}
 use Prim.Native.Nat.{◌+◌, ◌≤◌, ◌<◌}
 use native.Mathlib.Omega.{arith}
 use borrow.Author.Tests.{le-leb, lt-leb}
 use Rattle.rules.specs.Lists.{If◌then◌else◌}
-use Rattle.window.specs.declared.Least.{Least}
-use Rattle.window.specs.Model.{smallest_of, least_of, invoked_of, storing}
+use Rattle.window.specs.Model.{smallest_of, invoked_of, storing}
+use Rattle.window.proofs.Means.{smallest_range}
 use Rattle.window.proofs.Window.invoke.Goals as goal
 
-pub returns-then-next-ge65535 : goal.returns-then-next-ge65535
+pub overflow_sub-reach : goal.overflow_sub-reach
+overflow_sub-reach c = omega (arith, c.smallest_outstanding.ensures, (smallest_range c.args.self.now).1)
+
+pub returns-then-number-ge65535-clause-value : goal.returns-then-number-ge65535-clause-value
 unfolding invoked_of If◌then◌else◌
-returns-then-next-ge65535 c = simp (c.denied.ensures, le-leb _ _ c.if-next-ge65535.true)
+returns-then-number-ge65535-clause-value c = simp (le-leb _ _ c.if-number-ge65535.true)
 
-pub returns-then-least-next : goal.returns-then-least-next
-unfolding invoked_of least_of If◌then◌else◌
-returns-then-least-next c = let w = c.args.self in
-    let least = c.smallest_outstanding-least in
-    let e : least.result.number ≡ smallest_of w = ap (λ (l : Least). l.number) least.ensures in
-    let full : least.result.number + 8 ≤ w.next = omega (arith, c.if-least-next.true) in
-    simp (c.denied-then-least-next.ensures, lt-leb _ _ c.if-next-ge65535.false, ← e, le-leb _ _ full)
+pub returns-then-reach-ge8-clause-value : goal.returns-then-reach-ge8-clause-value
+unfolding invoked_of If◌then◌else◌
+returns-then-reach-ge8-clause-value c =
+    let full : smallest_of c.args.self.now + 8 ≤ c.args.self.now.next = omega (arith, c.smallest_outstanding.ensures) in
+    simp (lt-leb _ _ c.if-number-ge65535.false, le-leb _ _ full)
 
-pub returns : goal.returns
-unfolding invoked_of least_of storing If◌then◌else◌
-returns c = let w = c.args.self in
-    let least = c.smallest_outstanding-least in
-    let e : least.result.number ≡ smallest_of w = ap (λ (l : Least). l.number) least.ensures in
-    let room : w.next < least.result.number + 8 = omega (arith, c.if-least-next.false) in
-    simp (lt-leb _ _ c.if-next-ge65535.false, ← e, lt-leb _ _ room)
+pub returns-clause-value : goal.returns-clause-value
+unfolding invoked_of storing If◌then◌else◌
+returns-clause-value c =
+    let room : c.args.self.now.next < smallest_of c.args.self.now + 8 = omega (arith, c.smallest_outstanding.ensures) in
+    simp (lt-leb _ _ c.if-number-ge65535.false, lt-leb _ _ room)

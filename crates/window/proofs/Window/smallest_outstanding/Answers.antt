@@ -2,23 +2,17 @@
 -- Assumes nothing.
 use mathlib.Core.Path.{refl, ap, sym, ◌∙◌}
 use Prim.Native.Nat.{ℕ, ◌-◌}
-use Rattle.window.proofs.Search.{first_here, first_past, first_none}
-use Rattle.window.specs.Model.{is_outstanding, first_from, smallest_of, least_of}
+use Rattle.window.proofs.Search.{first_here, first_past}
+use Rattle.window.specs.Model.{first_from, smallest_of}
 use borrow.Author.Rules.{rules}
 use Rattle.window.proofs.Window.smallest_outstanding.Goals as goal
 
 pub loop-number-init : goal.loop-number-init
 unfolding smallest_of
-loop-number-init c = (refl, search rules, ap (λ (k : ℕ). first_from c.args.self.slots k (c.args.self.next - k)) c.oldest_of-number.ensures)
+loop-number-init c = (refl, ap (λ (k : ℕ). first_from c.args.self.now.slots k (c.args.self.now.next - k)) c.saturating_sub-number.ensures)
 
 pub loop-number-preserved : goal.loop-number-preserved
-unfolding is_outstanding
-loop-number-preserved c = (refl, search rules, sym (first_past c.args.self.slots _ c.args.self.next (search rules) (sym c.waits.ensures ∙ c.if-waits.false)) ∙ c.loop-number.invariant.2)
+loop-number-preserved c = (refl, sym (first_past c.args.self.now.slots _ c.args.self.now.next (search rules) (sym c.is_outstanding.ensures ∙ c.if-is_outstanding.false)) ∙ c.loop-number.invariant.1)
 
-pub returns-after-loop-number : goal.returns-after-loop-number
-unfolding least_of
-returns-after-loop-number c = ap (λ (k : ℕ). record { window = c.args.self; number = k }) (sym (first_none c.args.self.slots _ c.args.self.next c.loop-number-test.false) ∙ c.loop-number.invariant.2)
-
-pub returns-then-waits : goal.returns-then-waits
-unfolding least_of is_outstanding
-returns-then-waits c = ap (λ (k : ℕ). record { window = c.args.self; number = k }) (sym (first_here c.args.self.slots _ c.args.self.next (search rules) (sym c.waits.ensures ∙ c.if-waits.true)) ∙ c.loop-number.invariant.2)
+pub returns-then-is_outstanding : goal.returns-then-is_outstanding
+returns-then-is_outstanding c = sym (first_here c.args.self.now.slots _ c.args.self.now.next (search rules) (sym c.is_outstanding.ensures ∙ c.if-is_outstanding.true)) ∙ c.loop-number.invariant.1
