@@ -13,11 +13,11 @@ use records::Next;
 use std::io;
 use std::io::Read;
 
-fn put(rt: &impl Print, text: &[u8], count: usize) -> io::Result<()> {
-    match text.get(..count) {
-        Some(front) => rt.write_all(front),
-        None => Ok(()),
-    }
+// The first bytes of a text are written. A text with its count: five callers would say &text[..count], and the bound is asked once, here.
+fn put(rt: &impl Print, text: &[u8], count: usize) -> io::Result<()>
+    requires { count ≤ length text.now }
+{
+    rt.write_all(&text[..count])
 }
 
 // What one read gives: how many bytes, none at the end of the input or where the read fails.
@@ -27,7 +27,8 @@ fn read_once(source: &mut impl Read, input: &mut [u8]) -> usize
     source.read(input).unwrap_or(0)
 }
 
-// The first two bytes of the input, or as many of them as there are. How many.
+// The first two bytes of the input, or as many of them as there are. How many. No read_exact: it tries again where a read was interrupted, and here
+// that, as each read that fails, is the end of the input. Not vectors' read_full, which hands a failed read on; no crate lies under the two programs.
 fn read_head(source: &mut impl Read, head: &mut [u8]) -> usize
     ensures { result ≤ length head.new }
 {
@@ -42,18 +43,18 @@ fn read_head(source: &mut impl Read, head: &mut [u8]) -> usize
     got
 }
 
-// As many bytes of the input as there are, or as find room, behind those that were kept. How many bytes there are then.
+// As many bytes of the input as there are, or as find room, behind those that were kept. How many bytes there are then. The area and a place
+// in it: what was kept stands before what is read, in one area (fixed memory).
 fn read_behind(source: &mut impl Read, input: &mut [u8], kept: usize) -> usize
+    requires { kept ≤ length input.old }
     ensures { result ≤ length input.new }
 {
-    if input.len() < kept {
-        return 0;
-    }
     kept + read_once(source, &mut input[kept..])
 }
 
 // Records are read and delivered until the input ends or is cut. A proved loop has to end, and nothing says that the input does: the turns are counted
-// up to a number that no run reaches.
+// up to a number that no run reaches. input[from..end] is what was read and not delivered: a BufReader would allocate.
+#[tactic(auto, using(records::proofs::Front::length_inside))]
 fn run(
     rt: &impl Print,
     source: &mut impl Read,
@@ -92,19 +93,21 @@ fn run(
     Ok(())
 }
 
+#[tactic(auto, using(lines::proofs::Short::cut_fits))]
 fn put_cut(rt: &impl Print, text: &mut [u8]) -> io::Result<()> {
     let count = lines::cut_line(text);
     put(rt, text, count)
 }
 
 fn put_logs(rt: &impl Print, r: &Register, text: &mut [u8]) -> io::Result<()> {
-    for (i, board) in r.boards.iter().take(r.n as usize).enumerate() {
+    for (i, board) in r.boards.iter().take(usize::from(r.n)).enumerate() {
         let count = delivery::log_lines(i as u8 + 1, board, text);
         put(rt, text, count)?;
     }
     Ok(())
 }
 
+#[tactic(auto, using(lines::proofs::Short::header_fits))]
 fn bench(
     rt: &impl Print,
     source: &mut impl Read,
@@ -120,6 +123,7 @@ fn bench(
     put_logs(rt, &register, text)
 }
 
+#[tactic(auto, using(lines::proofs::Short::setup_fits))]
 fn main(rt: HostRuntime) -> io::Result<()> {
     let mut source = rt.stdin();
     let mut head = [0; 2];

@@ -17,11 +17,13 @@ use frames::{Head, LogNumber};
 use queue::Queue;
 use refusal::Refusal;
 use send::Sent;
-use verdict::Change;
+use verdict::{Change, LOG_SIZE};
 
 // "Its log has entries ..", the first len of log: an entry's log number is its place. names and touched are columns of the log, each
 // entry's client and number in one word and its shards as a mask: find and count look at these and not at the whole log. Per client:
 // next, which is high + 1, and floor. Per shard: its queue. What lies past len, or belongs to no client or shard, is zero.
+// C lays it out, so the log's length, its columns and the flags stand flat, and a number that is not there is 0. Clone and Copy alone:
+// nothing compares or prints a record of this size.
 #[repr(C)]
 #[derive(Clone, Copy)]
 pub struct Board {
@@ -38,7 +40,9 @@ pub struct Board {
     pub started: bool,
 }
 
-// "Boards n: 2..8 .. Shard groups m: 1..8"; the own number is 1..n
+// "Boards n: 2..8 .. Shard groups m: 1..8"; the own number is 1..n. One by one, here and in `start`, as C hands them in
+// (register_c::board_start). Beside the tests in records and shard: no crate with
+// code lies under the three.
 #[tactic(auto, unfolding(crate::specs::Model::in_range))]
 fn in_range(n: u8, m: u8, own: u8) -> bool
     ensures { result ≡ in_range n m own }
@@ -51,44 +55,46 @@ fn in_range(n: u8, m: u8, own: u8) -> bool
 fn slot_of(log_number: LogNumber) -> usize
     ensures { (result ≡ slot_of log_number) × (result < 256) }
 {
-    (log_number % 256) as usize
+    usize::from(log_number % LOG_SIZE)
 }
 
-// A client's number in one word.
+// A client's number in one word, by the sum that name_of states. client and number apart, here and below, as the
+// entry has them: C lays them flat there.
 #[tactic(auto, unfolding(crate::specs::Model::name_of))]
 fn name_of(client: u8, number: u16) -> u32
     ensures { result ≡ name_of client number }
 {
-    (client as u32) * 65536 + number as u32
+    u32::from(client) * 65536 + u32::from(number)
 }
 
-// "Floor becomes the larger of floor and ack." By index: of what `get_mut` lends, the proof knows no element afterwards.
+// "Floor becomes the larger of floor and ack." By index: of what `get_mut` lends, the proof knows no element afterwards. `raise` and `follow` are
+// two: one keeps the larger, the other stores, in columns of two types.
 #[tactic(auto, unfolding(crate::specs::Model::raised_of))]
 fn raise(floor: &mut [u16; 16], client: u8, ack: u16)
     ensures { floor.new ≡ raised_of floor.old client ack }
 {
-    let at = client as usize;
-    if at < 16 {
+    let at = usize::from(client);
+    if at < floor.len() {
         floor[at] = floor[at].max(ack);
     }
 }
 
-// high, "the largest number in the log", is now the number of an entry that is new. The flag is tested here, so that `step` has no branch between
-// its writes.
-#[tactic(auto, unfolding(verdict::specs::Model::choosing, crate::specs::Model::followed_of))]
+// high, "the largest number in the log", is now the number of an entry that is new. The flag is tested here: with an `if` in `step`, between its
+// writes, the proof of `step` did not close (tried).
+#[tactic(auto, unfolding(frames::specs::Choosing::choosing, crate::specs::Model::followed_of))]
 fn follow(next: &mut [u32; 16], fresh: bool, client: u8, number: u16)
     ensures { next.new ≡ followed_of next.old fresh client number }
 {
-    let at = client as usize;
-    if fresh && at < 16 {
-        next[at] = number as u32 + 1;
+    let at = usize::from(client);
+    if fresh && at < next.len() {
+        next[at] = u32::from(number) + 1;
     }
 }
 
 impl Board {
     // ---- Start
 
-    // An empty state that is not started.
+    // An empty state that is not started. By hand: a Default derived over 256 elements was tried (in queue and shard) and did not prove.
     #[tactic(auto, unfolding(crate::specs::Model::empty_board))]
     pub fn unstarted() -> Board
         ensures { result ≡ empty_board 0 0 0 false }
@@ -109,7 +115,7 @@ impl Board {
     }
 
     // The same in place: `*self = Board::unstarted()` makes the board elsewhere first, so that a start takes 24,000 bytes of stack in place
-    // of 240.
+    // of 200, where include/register.h promises 1,024 at most.
     #[tactic(auto, unfolding(crate::specs::Model::empty_board))]
     fn clear(&mut self)
         ensures { self.new ≡ empty_board 0 0 0 false }
@@ -128,7 +134,7 @@ impl Board {
     }
 
     // Every field is written, whatever the board held before. "A refused start hands back an empty state marked as not started."
-    #[tactic(auto, unfolding(verdict::specs::Model::choosing, crate::specs::Model::start_of, crate::specs::Model::empty_board))]
+    #[tactic(auto, unfolding(frames::specs::Choosing::choosing, crate::specs::Model::start_of, crate::specs::Model::empty_board))]
     pub fn start(&mut self, n: u8, m: u8, own: u8) -> Result<(), Refusal>
         ensures { started_of self.new result ≡ start_of n m own }
     {
@@ -145,27 +151,29 @@ impl Board {
 
     // ---- The log, by log number and by client
 
-    // The log number under which a client's number is held, if it is.
+    // The log number under which a client's number is held, if it is. queue's `before` is the same chain over its numbers: a function for both would be
+    // no shorter than the chain.
     fn find(&self, client: u8, number: u16) -> Option<usize>
         ensures { result ≡ position (λ x. x == name_of client number) (take self.now.len self.now.names) }
     {
         let name = name_of(client, number);
         self.names
             .iter()
-            .take(self.len as usize)
+            .take(usize::from(self.len))
             .position(|x| *x == name)
     }
 
     // The log number that a frame is about: the one that it names; of a Submit the one under which its number is held, or is to be.
-    #[tactic(auto, unfolding(verdict::specs::Model::choosing, crate::specs::Model::place_of))]
+    #[tactic(auto, unfolding(frames::specs::Choosing::choosing, crate::specs::Model::place_of))]
     fn place_of(&self, head: Head) -> LogNumber
         ensures { result ≡ place_of head self.now.next self.now.names self.now.len }
     {
         match head {
             Head::Submit { client, number, .. } => {
-                if (number as u32) < verdict::of_client(&self.next, client, 0) {
+                if u32::from(number) < verdict::of_client(&self.next, client, 0) {
+                    // A length over 256, which no run makes, counts as 256: the columns have no more.
                     self.find(client, number)
-                        .unwrap_or((self.len as usize).min(256)) as LogNumber
+                        .unwrap_or(usize::from(self.len.min(LOG_SIZE))) as LogNumber
                 } else {
                     self.len
                 }
@@ -180,7 +188,7 @@ impl Board {
     // ---- The step
 
     // The frames that the changed entry makes this board send, or none.
-    #[tactic(auto, unfolding(verdict::specs::Model::choosing, crate::specs::Model::frames_of, send::specs::Model::laid, send::specs::Model::bytes_of))]
+    #[tactic(auto, unfolding(frames::specs::Choosing::choosing, crate::specs::Model::frames_of, send::specs::Model::laid, send::specs::Model::bytes_of))]
     fn sent(&self, change: &Change, log_number: LogNumber, out: &mut [u8]) -> Sent
         ensures { Sends (frames_of change.now.sends change.now.entry self.now.n self.now.m self.now.own self.now.floor log_number self.now.touched (length out.old)) out.old out.new result }
     {
@@ -209,7 +217,7 @@ impl Board {
         ensures bytes { Bytes frame.now }
         ensures refusal { OnErr result ((self.new ≡ self.old) × (out.new ≡ out.old)) }
     {
-        if !self.started || out.len() < 68 {
+        if refusal::unusable(self.started, out.len()) {
             return Err(Refusal::NotUsable);
         }
         let f = frames::read_frame(frame);

@@ -2,29 +2,20 @@
 // start and step; J, a log of 256 entries, is run. The program prints what it saw.
 #![tactic(auto)]
 
-ghost use Rattle.std.specs.Prelude.{◌≡◌, ◌++◌, drop, Result};
-ghost use Rattle.refusal.specs.Number.{answer_of};
+ghost use Rattle.std.specs.Prelude.{◌≡◌, ◌++◌, drop};
 ghost use Rattle.board.specs.Model.{start_of};
 ghost use Rattle.board_situations.specs.Expected.{submit_of, forward_at, notif_at, seen_d, forward_a, seen_f, seen_i};
 
 use board::Board;
-use refusal::Refusal;
-use send::Sent;
+use refusal::answer;
 use std::io;
-
-// The answer that a step shows: 0 where it was taken, else the refusal's number.
-fn answer(step: Result<Sent, Refusal>) -> u8
-    ensures { result ≡ answer_of step }
-{
-    step.err().map_or(0, u8::from)
-}
 
 // Board `own` of 2 over one shard group, fresh.
 fn fresh(own: u8) -> Board
     ensures { result ≡ (start_of 2 1 own).board }
 {
     let mut board = Board::unstarted();
-    let _started = board.start(2, 1, own);
+    let _ = board.start(2, 1, own);
     board
 }
 
@@ -58,8 +49,9 @@ fn notif(log_number: u8) -> [u8; 8]
 
 // ---- The situations
 
-// Answers to B, to C, and to A twice; the log's length then.
-#[derive(Clone, Copy)]
+// Answers to B, to C, and to A twice; the log's length then. Here and below the answers are numbers, as seen_d, seen_f and seen_i have them and
+// as the program prints them.
+#[derive(Clone, Copy, Debug, PartialEq, Eq)]
 struct SeenD {
     b: u8,
     c: u8,
@@ -89,7 +81,7 @@ fn play_d(out: &mut [u8; 68], again: &mut [u8; 68]) -> SeenD
 }
 
 // The answer to ExecNotif 2, shard 1's queue and which entries are EXE then; the answer to ExecNotif 0, and the last taken number and 1 more.
-#[derive(Clone, Copy)]
+#[derive(Clone, Copy, Debug, PartialEq, Eq)]
 struct SeenF {
     first: u8,
     waiting: usize,
@@ -107,9 +99,9 @@ fn play_f() -> SeenF
 {
     let mut out = [0; 68];
     let mut board = fresh(2);
-    let _a = board.step(&forward(0), &mut out);
-    let _b = board.step(&forward(1), &mut out);
-    let _c = board.step(&forward(2), &mut out);
+    let _ = board.step(&forward(0), &mut out);
+    let _ = board.step(&forward(1), &mut out);
+    let _ = board.step(&forward(2), &mut out);
     let first = answer(board.step(&notif(2), &mut out));
     let waiting = board.queues[0].len;
     let exe0 = board.log[0].exe;
@@ -127,7 +119,7 @@ fn play_f() -> SeenF
     }
 }
 
-#[derive(Clone, Copy)]
+#[derive(Clone, Copy, Debug, PartialEq, Eq)]
 struct SeenI {
     first: u8,
     second: u8,
@@ -139,7 +131,7 @@ fn play_i() -> SeenI
 {
     let mut out = [0; 68];
     let mut board = fresh(1);
-    let _a = board.step(&submit(1, 0, 0), &mut out);
+    let _ = board.step(&submit(1, 0, 0), &mut out);
     let executed = b"\x05\x00\x05\x00\x00\x00\x00";
     let first = answer(board.step(executed, &mut out));
     let second = answer(board.step(executed, &mut out));
@@ -151,7 +143,7 @@ fn full() -> Board {
     let mut board = fresh(1);
     let mut out = [0; 68];
     for number in 0..256 {
-        let _taken = board.step(&submit(1, number, number), &mut out);
+        let _ = board.step(&submit(1, number, number), &mut out);
     }
     board
 }
@@ -159,13 +151,11 @@ fn full() -> Board {
 // "log of 256, new number: 5; a held PRE number: Forward."
 fn play_j(rt: &impl Print) -> io::Result<()> {
     let mut board = full();
-    print!(rt; "J")?;
-    say(rt, board.len as u64)?;
+    print!(rt; "J {}", board.len)?;
     let mut out = [0; 68];
     for number in [256, 255] {
         let step = board.step(&submit(1, number, number), &mut out);
-        say(rt, answer(step) as u64)?;
-        say(rt, step.map_or(0, |sent| sent.frames) as u64)?;
+        print!(rt; " {} {}", answer(step), step.map_or(0, |sent| sent.frames))?;
     }
     show(rt, &out)
 }
@@ -179,15 +169,9 @@ fn main(rt: HostRuntime) -> io::Result<()> {
     check::expect(d.first == 0);
     check::expect(d.second == 0);
     check::expect(d.entries == 1);
-    print!(rt; "B")?;
-    say(&rt, d.b as u64)?;
-    print!(rt; "\nC")?;
-    say(&rt, d.c as u64)?;
-    print!(rt; "\nD")?;
-    say(&rt, d.first as u64)?;
+    print!(rt; "B {}\nC {}\nD {}", d.b, d.c, d.first)?;
     show(&rt, &out)?;
-    print!(rt; "D")?;
-    say(&rt, d.second as u64)?;
+    print!(rt; "D {}", d.second)?;
     show(&rt, &again)?;
     let f = play_f();
     check::expect(f.first == 0);
@@ -197,34 +181,19 @@ fn main(rt: HostRuntime) -> io::Result<()> {
     check::expect(f.exe2);
     check::expect(f.second == 0);
     check::expect(f.taken == 3);
-    print!(rt; "F")?;
-    say(&rt, f.first as u64)?;
-    say(&rt, f.waiting as u64)?;
-    say(&rt, f.second as u64)?;
-    say(&rt, f.taken as u64)?;
+    println!(rt; "F {} {} {} {}", f.first, f.waiting, f.second, f.taken)?;
     let i = play_i();
     check::expect(i.first == 0);
     check::expect(i.second == 7);
-    print!(rt; "\nI")?;
-    say(&rt, i.first as u64)?;
-    say(&rt, i.second as u64)?;
-    println!(rt)?;
+    println!(rt; "I {} {}", i.first, i.second)?;
     play_j(&rt)
-}
-
-fn say(rt: &impl Print, n: u64) -> io::Result<()> {
-    print!(rt; " {n}")
-}
-
-fn hex(rt: &impl Print, x: u8) -> io::Result<()> {
-    print!(rt; " {x:02x}")
 }
 
 // The first 18 bytes, a Forward of one operation.
 fn show(rt: &impl Print, out: &[u8; 68]) -> io::Result<()> {
     print!(rt; ":")?;
     for byte in &out[..18] {
-        hex(rt, *byte)?;
+        print!(rt; " {byte:02x}")?;
     }
     println!(rt)
 }

@@ -1,7 +1,7 @@
 -- A text that grows in an area by one line: what stands before the line, and the bytes behind it, are as they were.
 -- Assumes nothing.
 use mathlib.Core.List.{List, ◌++◌, append-nil}
-use mathlib.Core.Path.{◌≡◌, refl, ap, sym, ◌∙◌}
+use mathlib.Core.Path.{◌≡◌, ap, sym, ◌∙◌}
 use Prim.Native.Nat.{ℕ, ◌+◌, ◌-◌, ◌≤◌}
 use native.Mathlib.Omega.{arith}
 use lib.ListN.{length, take, drop, length-append, length-drop, take-append-drop}
@@ -15,9 +15,6 @@ pub record Grown (l₀ l : List ℕ) (written : ℕ) : Type 0 where
   pub within : written ≤ length l₀
   pub as_long : length l ≡ length l₀
   pub behind : drop written l ≡ drop written l₀
-
-pub ungrown : (l : List ℕ) → Grown l l 0
-ungrown l = record { within = omega arith; as_long = refl; behind = refl }
 
 -- a line laid behind the text
 abbrev pub lined : List ℕ → ℕ → List ℕ → List ℕ

@@ -15,16 +15,13 @@ use Rattle.entry.specs.declared.Entry.{Entry}
 use Rattle.board.specs.declared.Board.{Board}
 use Rattle.delivery.specs.Delivery.{standing}
 use Rattle.delivery.specs.Logs.{log_text, log_lines}
-use Rattle.delivery.proofs.Area.{Grown, lined, ungrown, grows, more_text, stands}
+use Rattle.delivery.proofs.Area.{Grown, lined, grows, more_text, stands}
 
 -- what the loop keeps: the lines of the entries that were passed stand, and those of the others are ahead
 pub record Logged (board : ℕ) (es : List Entry) (l₀ : List ℕ) (k : ℕ) (l : List ℕ) (written : ℕ) : Type 0 where
   pub few : written ≤ 128 * k
   pub grown : Grown l₀ l written
   pub ahead : take written l ++ log_text board k (drop k es) ≡ log_text board 0 es
-
-pub logged_at_first : (board : ℕ) (es : List Entry) (l : List ℕ) → Logged board es l 0 l 0
-logged_at_first board es l = record { few = omega arith; grown = ungrown l; ahead = refl }
 
 module _ {board : ℕ} {es : List Entry} {l₀ : List ℕ} {k : ℕ} {l : List ℕ} {written : ℕ} (g : Logged board es l₀ k l written) (room : 32768 ≤ length l₀) (most : length es ≤ 256) where
   -- there is room for one more line

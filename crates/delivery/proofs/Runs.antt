@@ -23,7 +23,7 @@ use Rattle.delivery.specs.Register.{Turn, turn_of}
 use Rattle.delivery.specs.Delivery.{Run, frame_at, after, onward, full, runs, delivered, delivered_of, standing}
 use Rattle.records.specs.contracts.Next.{the_type}
 use Rattle.records.proofs.Records.{record-inside}
-use Rattle.delivery.proofs.Area.{Grown, lined, more_text, grows, stands, ungrown}
+use Rattle.delivery.proofs.Area.{Grown, lined, more_text, grows, stands}
 
 -- the index is the last that 64 bits hold
 abbrev pub last : ℕ
@@ -83,11 +83,6 @@ pub record Kept (r₀ : Register) (first : ℕ) (input l₀ : List ℕ) (r : Reg
   pub ahead :
       runs (length input - (index - first)) input (length l₀) (record { register = r; index = index; taken = taken; text = take written l }) ≡
       delivered r₀ first input (length l₀)
-
-pub kept_at_first : (r : Register) (first : ℕ) (input l : List ℕ) → Kept r first input l r first 0 l 0
-kept_at_first r first input l =
-    let e : length input - (first - first) ≡ length input = omega arith in
-    record { counted = omega arith; fewer = omega arith; inside = omega arith; grown = ungrown l; ahead = rw e }
 
 -- a record was found: it lies in the input, and there is room for its line
 pub record Ready {r₀ : Register} {first : ℕ} {input l₀ : List ℕ} {r : Register} {index taken : ℕ} {l : List ℕ} {written : ℕ}

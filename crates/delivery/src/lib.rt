@@ -14,13 +14,15 @@ ghost use Rattle.refusal.specs.Number.{answer_of};
 
 use board::Board;
 use entry::Entry;
+use frames::LogNumber;
 use records::{Next, Receiver};
 use refusal::Refusal;
 use shard::Shard;
 
 // ---- The register under test
 
-// Board i and shard group i stand at i - 1. Those above n and m are not started, and no address names them.
+// Board i and shard group i stand at i - 1. Those above n and m are not started, and no address names them. Eight of each, whatever n and m are: fixed
+// memory. Clone and Copy alone: nothing compares or prints a register.
 #[derive(Clone, Copy)]
 pub struct Register {
     pub n: u8,
@@ -35,6 +37,7 @@ impl Register {
         ensures { result ≡ register_of n m }
     {
         let mut boards = [Board::unstarted(); 8];
+        // Two loops: a board is started from n, m and its own number, a shard group from m and its own.
         for (i, board) in boards.iter_mut().enumerate() {
             let _ = board.start(n, m, i as u8 + 1);
         }
@@ -57,13 +60,13 @@ impl Register {
 fn turn(r: &mut Register, address: u8, frame: &[u8]) -> Result<u8, Refusal>
     ensures { turned r.new result ≡ turn_of r.old address frame.now }
 {
-    let mut out = [0; 68];
+    let mut out = [0; refusal::LEAST_OUT];
     match records::named(r.n, r.m, address) {
         Receiver::Board(i) => {
             let sent = r.boards[i].step(frame, &mut out)?;
             Ok(sent.frames)
         }
-        // a step of a shard group that is taken sends one frame
+        // A step of a shard group that is taken sends one frame. Shard::step gives the bytes alone.
         Receiver::Shard(i) => {
             r.shards[i].step(frame, &mut out)?;
             Ok(1)
@@ -76,14 +79,11 @@ fn turn(r: &mut Register, address: u8, frame: &[u8]) -> Result<u8, Refusal>
 fn line(index: u64, turn: Result<u8, Refusal>, text: &mut [u8]) -> usize
     ensures { Laid (d_line index (answer_of turn) (sent_by turn)) text.old text.new result }
 {
-    match turn {
-        Ok(frames) => lines::d_line(index, 0, frames, text),
-        Err(refusal) => lines::d_line(index, u8::from(refusal), 0, text),
-    }
+    lines::d_line(index, refusal::answer(turn), turn.unwrap_or(0), text)
 }
 
 // The next record's index after some records; how many bytes of the input they were, and how many of the text their lines are.
-#[derive(Clone, Copy)]
+#[derive(Clone, Copy, Debug, Default, PartialEq, Eq)]
 pub struct Delivered {
     pub index: u64,
     pub taken: usize,
@@ -91,15 +91,17 @@ pub struct Delivered {
 }
 
 // The records at the front of the input are delivered in their order, each to whom its address names, and the line of each is laid behind the last,
-// until no whole record is left or the text has less than 128 bytes left.
+// until no whole record is left or the text has less than lines::ROOM bytes left.
 pub fn deliver(r: &mut Register, first: u64, input: &[u8], text: &mut [u8]) -> Delivered
-    ensures { (shown r.new result ≡ delivered_of (delivered r.old first input.now (length text.old))) × (text.new ≡ standing (delivered r.old first input.now (length text.old)).text text.old) × (result.taken ≤ length input.now) × (result.written ≤ length text.old) }
+    ensures run { shown r.new result ≡ delivered_of (delivered r.old first input.now (length text.old)) }
+    ensures lines { text.new ≡ standing (delivered r.old first input.now (length text.old)).text text.old }
+    ensures inside { (result.taken ≤ length input.now) × (result.written ≤ length text.old) }
 {
     let mut index = first;
     let mut taken = 0;
     let mut written = 0;
     // The index is handed back, so no `for` counts it.
-    while index < u64::MAX && text.len() - written >= 128 {
+    while index < u64::MAX && text.len() - written >= lines::ROOM {
         let Next::Record { address, end } = records::record_at(&input[taken..]) else {
             break;
         };
@@ -118,20 +120,28 @@ pub fn deliver(r: &mut Register, first: u64, input: &[u8], text: &mut [u8]) -> D
 
 // ---- The logs
 
-// The entries that a log holds: the first len of its places, and all where len is more than they are.
-fn held(log: &[Entry; 256], len: u16) -> &[Entry]
+// The entries that a log holds: the first len of its places, and all where len is more than they are. Two parameters: C lays the board's log and its
+// length out side by side.
+fn held(log: &[Entry; 256], len: LogNumber) -> &[Entry]
     ensures value { result.now ≡ take len log.now }
     ensures few { length result.now ≤ 256 }
 {
-    let end = (len as usize).min(log.len());
+    let end = usize::from(len).min(log.len());
     &log[..end]
 }
 
-// The L lines of a board's log, rising, from the first byte of the text on. A text of less than 32,768 bytes takes none.
+// How many bytes a text must have to take the lines of a log: 256 lines, and for each what a line may have.
+const LOG_ROOM: usize = 256 * lines::ROOM;
+
+// The L lines of a board's log, rising, from the first byte of the text on. A text of less than LOG_ROOM bytes takes none; 0 and no
+// Option then, since the promise is the length of the definition's bytes, of which there are none. The text is the caller's and the count is answered:
+// nothing is allocated.
 pub fn log_lines(board: u8, b: &Board, text: &mut [u8]) -> usize
-    ensures { (result ≡ length (log_lines board b.now (length text.old))) × (text.new ≡ standing (log_lines board b.now (length text.old)) text.old) × (result ≤ length text.old) }
+    ensures written { result ≡ length (log_lines board b.now (length text.old)) }
+    ensures lines { text.new ≡ standing (log_lines board b.now (length text.old)) text.old }
+    ensures inside { result ≤ length text.old }
 {
-    if text.len() < 32768 {
+    if text.len() < LOG_ROOM {
         return 0;
     }
     let entries = held(&b.log, b.len);

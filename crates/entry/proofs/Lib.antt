@@ -7,3 +7,4 @@ pub mod Entries
 pub mod Held
 pub mod Ruled
 pub mod Determined
+pub mod Bits

@@ -111,9 +111,6 @@ module _ (mask shard : ℕ) where
     pub bit_room : mask < 256 → in_mask mask shard ≡ false → mask + bit_of shard < 256
     bit_room h f = digit_room 8 (shard - 1) mask (omega arith) h (out_zero f)
 
-  pub bit_counts : in_mask mask shard ≡ true → bit_of shard ≤ mask
-  bit_counts h = digit_counts (shard - 1) mask (in_one h)
-
 -- ---- The test of a range
 
 le_is : (a b : ℕ) → is_le (nat_cmp a b) ≡ leb a b

@@ -4,6 +4,7 @@
 #![tactic(auto)]
 
 ghost use Rattle.std.specs.Prelude.{◌≡◌, true, false, ◌≤◌, take};
+ghost use Rattle.rules.specs.Lists.{within};
 ghost use Rattle.entry.specs.Model.{bit_of, in_mask, insert_of, strike_of, is_empty_of, shard_number, touched_of, PicksBeside, part_on, gets_of, ComparesBy, same_operation, same_operations_of, same_write_of, fits_of, stored_of, answered_of, reads_held, list_of, no_entry, new_entry_of, heard_from_of, finished_of};
 
 use frames::{Item, Items};
@@ -12,7 +13,7 @@ use frames::{Item, Items};
 // shard was heard from; a slot without a read is zero. So reads stand by rising place, whichever answer came first.
 // C lays it out, so count and items stand flat here; `list` gives them together.
 #[repr(C)]
-#[derive(Clone, Copy)]
+#[derive(Clone, Copy, Debug, PartialEq, Eq, Default)]
 pub struct Entry {
     pub client: u8,
     pub number: u16,
@@ -24,12 +25,21 @@ pub struct Entry {
 }
 
 // ---- Sets of shards
+// The set is a byte and no type of its own: C lays it out, in Entry (remaining) and in the board's record (touched).
+
+#[tactic(auto, using(crate::proofs::Masks::range_is))]
+fn is_shard(shard: u8) -> bool
+    ensures { result ≡ within 1 8 shard }
+{
+    (1..=8).contains(&shard)
+}
 
 // Is the shard in the set? No set has a shard outside 1..8.
+#[tactic(auto, using(crate::proofs::Bits::bit_tested), unfolding(crate::specs::Model::in_mask))]
 pub fn in_mask(mask: u8, shard: u8) -> bool
     ensures { result ≡ in_mask mask shard }
 {
-    (1..=8).contains(&shard) && (mask >> (shard - 1)) % 2 == 1
+    is_shard(shard) && mask & bit(shard) != 0
 }
 
 fn bit(shard: u8) -> u8
@@ -40,22 +50,24 @@ fn bit(shard: u8) -> u8
 }
 
 // The set with the shard. There is no shard 0, nor one above 8.
+#[tactic(auto, using(crate::proofs::Bits::bit_set), unfolding(frames::specs::Choosing::choosing, crate::specs::Model::insert_of))]
 pub fn insert(mask: u8, shard: u8) -> u8
     ensures { result ≡ insert_of mask shard }
 {
-    if (1..=8).contains(&shard) && !in_mask(mask, shard) {
-        mask + bit(shard)
+    if is_shard(shard) {
+        mask | bit(shard)
     } else {
         mask
     }
 }
 
 // The set without the shard.
+#[tactic(auto, using(crate::proofs::Bits::bit_cleared), unfolding(frames::specs::Choosing::choosing, crate::specs::Model::strike_of, crate::specs::Model::in_mask))]
 pub fn strike(mask: u8, shard: u8) -> u8
     ensures { result ≡ strike_of mask shard }
 {
-    if in_mask(mask, shard) {
-        mask - bit(shard)
+    if is_shard(shard) {
+        mask & !bit(shard)
     } else {
         mask
     }
@@ -71,6 +83,8 @@ pub fn is_empty(mask: u8) -> bool
 // ---- Keys and shards
 
 // "Key k belongs to shard (k mod m) + 1"; without shards it belongs to none, 0.
+// 0 and no Option: shard_number, which the contract states, is a number, and touched_set and part_view are proved over it.
+#[tactic(auto, unfolding(frames::specs::Choosing::choosing, crate::specs::Model::shard_number, rules::specs::Transactions::shard_of))]
 pub fn shard_of(m: u8, key: u8) -> u8
     ensures { result ≡ shard_number m key }
 {
@@ -78,6 +92,7 @@ pub fn shard_of(m: u8, key: u8) -> u8
 }
 
 // The shards that the operations of the list touch.
+#[tactic(auto, using(crate::proofs::Sets::joined_all))]
 pub fn touched(m: u8, list: Items) -> u8
     ensures { result ≡ touched_of m list.count list.items }
 {
@@ -160,8 +175,9 @@ pub fn stored(mut reads: [Item; 4], list: Items) -> [Item; 4]
     ensures { result ≡ stored_of reads list.count list.items }
 {
     for read in list.as_slice() {
-        let at = read.place as usize;
-        if at < 4 {
+        let at = usize::from(read.place);
+        // By index: tried with get_mut, and of what it lends a proof knows no element afterwards.
+        if at < reads.len() {
             reads[at] = *read;
         }
     }
@@ -177,22 +193,16 @@ fn answered(m: u8, left: u8, x: Item) -> bool
 
 // ---- Entries
 
-// No entry: what a free place of a log holds.
+// No entry: what a free place of a log holds. It is the default, under the name that the promises have.
 pub fn no_entry() -> Entry
     ensures { result ≡ no_entry }
 {
-    Entry {
-        client: 0,
-        number: 0,
-        count: 0,
-        items: [frames::no_item(); 4],
-        exe: false,
-        reads: [frames::no_item(); 4],
-        remaining: 0,
-    }
+    Entry::default()
 }
 
 // "append as PRE": no reads yet, and all shards that the keys touch remain.
+// client and number apart, here and in same_write: C lays them out flat in the entry, and no type of the two is kept anywhere.
+#[tactic(auto, unfolding(crate::specs::Model::new_entry_of))]
 pub fn new_entry(m: u8, client: u8, number: u16, list: Items) -> Entry
     ensures { result ≡ new_entry_of m client number list.count list.items }
 {
@@ -221,6 +231,7 @@ impl Entry {
     }
 
     // Is this the entry of that client's number, with these operations?
+    #[tactic(auto, unfolding(crate::specs::Model::same_write_of))]
     pub fn same_write(&self, client: u8, number: u16, list: Items) -> bool
         ensures { result ≡ same_write_of self.now client number list.count list.items }
     {
@@ -235,6 +246,7 @@ impl Entry {
     }
 
     // "strike the shard from remaining, store the reads. When none remains: EXE"
+    #[tactic(auto, unfolding(crate::specs::Model::heard_from_of))]
     pub fn heard_from(self, shard: u8, list: Items) -> Entry
         ensures { result ≡ heard_from_of self shard list.count list.items }
     {
@@ -248,6 +260,7 @@ impl Entry {
     }
 
     // "EXE, store the reads, remaining empty"
+    #[tactic(auto, unfolding(crate::specs::Model::finished_of))]
     pub fn finished(self, list: Items) -> Entry
         ensures { result ≡ finished_of self list.count list.items }
     {

@@ -3,14 +3,14 @@
 use mathlib.Core.Path.{◌≡◌, refl, sym, ap, ◌∙◌}
 use mathlib.Core.Bool.{◌&&◌}
 use mathlib.Core.List.{List, [], ◌++◌, append_assoc, append-nil}
-use Prim.Native.Nat.{ℕ, ◌+◌, ◌-◌, ◌<◌, ◌≤◌}
+use Prim.Native.Nat.{ℕ, ◌+◌, ◌-◌, ◌≤◌}
 use native.Mathlib.Nat.{le_of_eq}
 use native.Mathlib.Omega.{arith}
 use lib.ListN.{length, take, drop, length-append, length-drop, drop_of_length-le}
 use lib.Seq.{take_at, drop_at, drop-drop}
 use lib.Dec.{leb, leb→le}
 use Rattle.rules.specs.Lists.{If◌then◌else◌}
-use borrow.Author.Tests.{le-leb, lt-leb}
+use borrow.Author.Tests.{le-leb}
 use Rattle.rules.proofs.Lists.{by, and_r}
 use Rattle.frames.specs.declared.Frame.{Frame}
 use Rattle.frames.specs.Frames.{frame_bytes, fits, written_of, laid_of, end_of, laid_behind}
@@ -19,20 +19,13 @@ use Rattle.frames.proofs.Puts.{writes, lays}
 
 -- ---- What the code leaves
 
-pub refused : (f : Frame) (at : ℕ) (l : List ℕ) → length l < at → (at ≡ end_of f at (length l)) × (l ≡ laid_behind f at l)
-unfolding end_of laid_behind If◌then◌else◌
-refused f at l h = (simp (lt-leb at (length l) h), simp (lt-leb at (length l) h))
-
--- m is what the part from `at` on became, n what was written there
-pub laid : (f : Frame) (at n : ℕ) (l m : List ℕ) → at ≤ length l → n ≡ written_of f (length (take (length l - at) (drop at l)))
-    → m ≡ laid_of f (take (length l - at) (drop at l))
-    → (at + n ≡ end_of f at (length l)) × (take at l ++ (m ++ drop (length l - at) (drop at l)) ≡ laid_behind f at l)
-unfolding end_of laid_behind If◌then◌else◌
-laid f at n l m h en em =
-    let z : drop (length l - at) (drop at l) ≡ [] = drop_of_length-le (drop at l) (le_of_eq (length-drop at l)) in (
-      simp (le-leb at (length l) h, en, part l at, length-drop),
-      simp (le-leb at (length l) h, em, part l at, z, append-nil),
-    )
+-- m is what the part from `at` on became
+pub laid : (f : Frame) (at : ℕ) (l m : List ℕ) → at ≤ length l → m ≡ laid_of f (take (length l - at) (drop at l))
+    → take at l ++ (m ++ drop (length l - at) (drop at l)) ≡ laid_behind f at l
+unfolding laid_behind If◌then◌else◌
+laid f at l m h em =
+    let z : drop (length l - at) (drop at l) ≡ [] = drop_of_length-le (drop at l) (le_of_eq (length-drop at l)) in
+    simp (le-leb at (length l) h, em, part l at, z, append-nil)
 
 -- a frame has no more bytes than there is room
 written_small : (f : Frame) (room : ℕ) → written_of f room ≤ room

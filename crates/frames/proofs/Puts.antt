@@ -132,32 +132,13 @@ wrote f l m k len e shape ek en es b c four r p =
 abbrev pub Nothing : Frame → List ℕ → Type 0
 Nothing f l = (0 ≡ written_of f (length l)) × (l ≡ laid_of f l)
 
-pub no_kind : (f : Frame) (l : List ℕ) → kind_of f.head ≡ 0 → Nothing f l
+pub no_kind : (f : Frame) (l : List ℕ) → is_bad f.head ≡ true → Nothing f l
 unfolding written_of laid_of If◌then◌else◌
-no_kind f l k = let e = bad_bytes f (bad f.head k) in (rw e (both (fits f (length l)) 0), rw e (both (fits f (length l)) l))
+no_kind f l k = let e = bad_bytes f k in (rw e (both (fits f (length l)) 0), rw e (both (fits f (length l)) l))
   where
     both : {A : Type 0} (t : Bool) (x : A) → x ≡ (If t then x else x)
     both true x = refl
     both false x = refl
-
-    bad : (h : Head) → kind_of h ≡ 0 → is_bad h ≡ true
-    bad Bad e = refl
-    bad (Submit a b c) e = absurd (omega arith)
-    bad (Forward a b c d) e = absurd (omega arith)
-    bad (ShardAppend a b c) e = absurd (omega arith)
-    bad (ExecNotif a b) e = absurd (omega arith)
-    bad (Executed a) e = absurd (omega arith)
-    bad (Response a b) e = absurd (omega arith)
-
--- a frame with a kind is one
-pub good : (h : Head) → (kind_of h ≡ 0 → ⊥) → is_bad h ≡ false
-good Bad n = absurd (n refl)
-good (Submit a b c) n = refl
-good (Forward a b c d) n = refl
-good (ShardAppend a b c) n = refl
-good (ExecNotif a b) n = refl
-good (Executed a) n = refl
-good (Response a b) n = refl
 
 unfit : (f : Frame) (l : List ℕ) → fits f (length l) ≡ false → Nothing f l
 unfolding written_of laid_of If◌then◌else◌

@@ -12,6 +12,7 @@ use Rattle.frames.specs.declared.Head.{Head}
 use Rattle.frames.specs.declared.Head.TheVariants.{Bad, Submit, Forward, ShardAppend, ExecNotif, Executed, Response}
 use Rattle.frames.specs.declared.Frame.{Frame}
 use Rattle.frames.specs.declared.Front.{Front}
+use Rattle.frames.specs.declared.Writer.{Writer}
 
 -- ---- The table of kinds
 
@@ -226,6 +227,11 @@ read_frame s = alone (length s) (read_front s)
 pub record Put (before after : List ℕ) (at end : ℕ) (bytes : List ℕ) : Type 0 where
   pub stored : after ≡ sets before at bytes
   pub ended : end ≡ at + length bytes
+
+-- a writer stored some bytes behind what it had written, in the same area
+pub record Writes (before after : Writer) (bytes : List ℕ) : Type 0 where
+  pub same_area : after.out.ghost_name ≡ before.out.ghost_name
+  pub put : Put before.out.now after.out.now before.at after.at bytes
 
 -- a frame is written if it has at most four items and its bytes have room
 unfoldable pub fits : Frame → ℕ → Bool

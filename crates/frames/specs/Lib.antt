@@ -2,3 +2,4 @@
 pub mod Frames
 pub mod View
 pub mod Items
+pub mod Choosing

@@ -3,7 +3,7 @@
 
 ghost use Rattle.std.specs.Prelude.{◌≡◌, ◌+◌, ◌*◌, ◌<◌, ◌≤◌, length};
 ghost use Rattle.rules.specs.Frames.{two, byte_at, two_at, four_at, decode};
-ghost use Rattle.frames.specs.Frames.{kind_of, field_bytes, field_width, shape_of, width, item_bytes, list_bytes, len_of, ok_item, ok_items, ok_window, ok_head, valid, no_item, bad_frame, item_at, list_at, head_of, body_at, candidate_of, accept, read_front, read_frame, Put, written_of, laid_of, end_of, laid_behind};
+ghost use Rattle.frames.specs.Frames.{kind_of, is_bad, field_bytes, field_width, shape_of, width, item_bytes, list_bytes, len_of, ok_item, ok_items, ok_window, ok_head, valid, no_item, bad_frame, item_at, list_at, head_of, body_at, candidate_of, accept, read_front, read_frame, Writes, written_of, laid_of, end_of, laid_behind};
 ghost use Rattle.frames.specs.Items.{in_list, empty_list, pushed_on};
 ghost use Rattle.frames.specs.View.{answer_of, answer_to, meaning};
 
@@ -12,6 +12,7 @@ pub type LogNumber = u16;
 
 // One item of a list. An operation: code 0 get or 1 put, its place is its index. A placed operation: the same with its own place.
 // A read: code is `present`, 0 or 1, and the key is 0.
+// C lays it out, so the code is a number and no enum: a frame, or the caller's memory, may have one above 1, which `item_ok` refuses.
 #[repr(C)]
 #[derive(Clone, Copy, Debug, PartialEq, Eq, Default)]
 pub struct Item {
@@ -22,6 +23,8 @@ pub struct Item {
 }
 
 // Up to four items in their order: the first count. In each list that is read or made here the slots behind them are zero.
+// No ArrayVec of the kit: the count may be any byte, as in a frame, and what lies in the slots behind it is promised too (`empty_list`,
+// `pushed_on`, `slots`).
 #[derive(Clone, Copy, Debug, PartialEq, Eq, Default)]
 pub struct Items {
     pub count: u8,
@@ -30,6 +33,7 @@ pub struct Items {
 
 impl Items {
     // The list without items.
+    // `Items::default()` by the name for it that Rust's lists have.
     pub fn new() -> Items
         ensures { result ≡ empty_list }
     {
@@ -45,9 +49,11 @@ impl Items {
     }
 
     // One item more at the end; a full list stays as it is.
+    #[tactic(auto, unfolding(crate::specs::Choosing::choosing, crate::specs::Items::pushed_on))]
     pub fn push(&mut self, x: Item)
         ensures { self.new ≡ pushed_on self.old x }
     {
+        // By index: tried with `get_mut`, and the proof didn't close, since of an array it knows no element after that.
         let at = usize::from(self.count);
         if at < 4 {
             self.items[at] = x;
@@ -65,6 +71,7 @@ pub enum Shape {
 }
 
 // The fields of each kind; Bad is refusal 1.
+// Bad, and no Option of a Head: `frame_ok`, `write_frame` and `verdict::judge` promise an answer for it (laws `bad_bytes`, `bad_is_refused`).
 #[derive(Clone, Copy, Debug, PartialEq, Eq)]
 pub enum Head {
     Bad,
@@ -118,7 +125,7 @@ const LENGTH: usize = 2;
 const HEADER: usize = 2;
 
 // The last value of each field that has fewer than its bytes could hold: "Sizes".
-const LAST_CLIENT: u8 = 15;
+pub const LAST_CLIENT: u8 = 15;
 
 const LAST_NUMBER: u16 = 65534;
 
@@ -130,9 +137,9 @@ const LAST_SN: u16 = 256;
 
 const LAST_PLACE: u8 = 3;
 
-// A bound that a private function asks of a place only keeps sums of places from wrapping.
-
 // ---- Numbers in a slice; past the end a byte counts as 0
+
+// The bounds that the readers ask of a place only keep sums of places from wrapping.
 
 fn byte(s: &[u8], i: usize) -> u8
     ensures { result ≡ byte_at s.now i }
@@ -140,6 +147,7 @@ fn byte(s: &[u8], i: usize) -> u8
     s.get(i).copied().unwrap_or(0)
 }
 
+// Two functions and no generic one: a number is made by its own type's `from_le_bytes`.
 fn u16_at(s: &[u8], i: usize) -> u16
     requires { i < 4096 }
     ensures { result ≡ two_at s.now i }
@@ -158,6 +166,7 @@ fn u32_at(s: &[u8], i: usize) -> u32
 
 impl Head {
     // The number by which a frame names its kind; 0 is none.
+    // 0 and no Option: `kind_of`, by which the bytes of each head are stated, is a number.
     fn kind(self) -> u16
         ensures { result ≡ kind_of self }
     {
@@ -170,6 +179,14 @@ impl Head {
             Head::Executed { .. } => 5,
             Head::Response { .. } => 6,
         }
+    }
+
+    // A refused frame has no kind, no fields and no bytes. matches! and no == Head::Bad: tried, and write_frame did not prove over what the derived ==
+    // ensures, a case for each field.
+    fn is_bad(self) -> bool
+        ensures { result ≡ is_bad self }
+    {
+        matches!(self, Head::Bad)
     }
 
     // How the items of its list lie.
@@ -218,6 +235,7 @@ fn len_of(head: Head, count: u8) -> usize
 
 // ---- The tests
 
+// Place and code in their ranges, and a put, or value 0.
 fn item_ok(x: Item) -> bool
     ensures { result ≡ ok_item x }
 {
@@ -275,6 +293,7 @@ fn head_ok(head: Head, count: u8) -> bool
 }
 
 // The rules of "Sizes" and "Frames" for a frame's values.
+#[tactic(auto, unfolding(crate::specs::Frames::valid))]
 pub fn frame_ok(f: Frame) -> bool
     ensures { result ≡ valid f }
 {
@@ -284,6 +303,7 @@ pub fn frame_ok(f: Frame) -> bool
 // ---- The reader
 
 // An empty slot.
+// `Item::default()` by the name that the promises have.
 pub fn no_item() -> Item
     ensures { result ≡ no_item }
 {
@@ -302,6 +322,7 @@ pub fn bad_frame() -> Frame
 }
 
 // Item i of a list, its bytes from `at` on.
+// Each layout in full: no two of them have both code and value at the same places.
 fn item_at(shape: Shape, i: u8, s: &[u8], at: usize) -> Item
     requires { at < 3000 }
     ensures { result ≡ item_at shape i s.now at }
@@ -329,12 +350,14 @@ fn item_at(shape: Shape, i: u8, s: &[u8], at: usize) -> Item
 }
 
 // The list that stands at a place, its count first. At most four items are read, and what stands behind the list is not looked at.
+#[tactic(auto, using(crate::proofs::Cases::slots_more), unfolding(crate::specs::Choosing::choosing))]
 fn list_at(shape: Shape, s: &[u8], at: usize) -> Items
     requires { at < 1000 }
     ensures { result ≡ list_at shape s.now at }
 {
     let count = byte(s, at);
     let mut items = [no_item(); 4];
+    // By number: an item's place, its slot and its offset are all made of i. array::from_fn gives i too, and would test it against the count each time.
     for i in 0..count.min(4) {
         items[usize::from(i)] = item_at(shape, i, s, at + 1 + shape.width() * usize::from(i));
     }
@@ -342,6 +365,7 @@ fn list_at(shape: Shape, s: &[u8], at: usize) -> Items
 }
 
 // "The two-byte kind decides the body's layout."
+#[tactic(auto, unfolding(crate::specs::Choosing::choosing, crate::specs::Frames::head_of))]
 fn head_of(s: &[u8], body: &[u8]) -> Head
     ensures { result ≡ head_of (two_at s.now 2) body.now }
 {
@@ -378,6 +402,7 @@ fn head_of(s: &[u8], body: &[u8]) -> Head
 }
 
 // The only frame that the slice can begin with: the list stands behind the fields.
+#[tactic(auto, using(crate::proofs::Cases::part), unfolding(crate::specs::Frames::candidate_of, crate::specs::Frames::listed))]
 fn candidate(s: &[u8]) -> Frame
     requires { body_at ≤ length s.now }
     ensures { result ≡ candidate_of s.now }
@@ -389,6 +414,7 @@ fn candidate(s: &[u8]) -> Frame
 }
 
 // The frame where its rules hold, the length field is its own and its bytes are there.
+#[tactic(auto, unfolding(crate::specs::Choosing::choosing, crate::specs::Frames::accept))]
 fn accepted(frame: Frame, s: &[u8]) -> Option<Front>
     ensures { result ≡ accept frame s.now }
 {
@@ -403,6 +429,7 @@ fn accepted(frame: Frame, s: &[u8]) -> Option<Front>
 }
 
 // The frame with which the slice begins and where it ends, whatever follows it: laws `front_back` and `front_means`.
+#[tactic(auto, using(crate::proofs::Cases::short), unfolding(crate::specs::Frames::read_front))]
 pub fn read_front(s: &[u8]) -> Option<Front>
     ensures { result ≡ read_front s.now }
 {
@@ -414,6 +441,7 @@ pub fn read_front(s: &[u8]) -> Option<Front>
 
 // The frame that the slice is, or the refusal: "Nothing may follow a frame." Its number and its values are those of the rules' reading, and
 // it is written as the bytes that it was read from: law `bytes_back`.
+// A Frame and no Result: by its clause refusal 1 is a frame too, `bad_frame`.
 pub fn read_frame(s: &[u8]) -> Frame
     ensures value { result ≡ read_frame s.now }
     ensures head_value { (answer_of result.head ≡ answer_to (decode s.now)) × (meaning result ≡ decode s.now) }
@@ -427,6 +455,7 @@ pub fn read_frame(s: &[u8]) -> Frame
 // ---- The writer
 
 // An area, and how many of its bytes are written.
+// The area is lent and no Vec or ArrayVec of its own: the bytes go where the caller has them, and nothing is allocated.
 #[derive(Drop)]
 struct Writer<'a> {
     out: &'a mut [u8],
@@ -435,10 +464,10 @@ struct Writer<'a> {
 
 // Each method stores behind what is written, and only that.
 impl Writer<'_> {
+    #[tactic(auto, using(crate::proofs::Puts::put_part))]
     fn put(&mut self, bytes: &[u8])
         requires { self.old.at + length bytes.now ≤ length self.old.out.now }
-        ensures same_area { self.new.out.ghost_name ≡ self.old.out.ghost_name }
-        ensures put { Put self.old.out.now self.new.out.now self.old.at self.new.at bytes.now }
+        ensures { Writes self.old self.new bytes.now }
     {
         let end = self.at + bytes.len();
         self.out[self.at..end].copy_from_slice(bytes);
@@ -447,8 +476,7 @@ impl Writer<'_> {
 
     fn put16(&mut self, x: u16)
         requires { self.old.at + 2 ≤ length self.old.out.now }
-        ensures same_area { self.new.out.ghost_name ≡ self.old.out.ghost_name }
-        ensures put { Put self.old.out.now self.new.out.now self.old.at self.new.at (two x) }
+        ensures { Writes self.old self.new (two x) }
     {
         self.put(&x.to_le_bytes());
     }
@@ -457,8 +485,7 @@ impl Writer<'_> {
     // present 0 or 1 (1), value (4; 0 if absent)"
     fn item(&mut self, shape: Shape, x: Item)
         requires { self.old.at + width shape ≤ length self.old.out.now }
-        ensures same_area { self.new.out.ghost_name ≡ self.old.out.ghost_name }
-        ensures put { Put self.old.out.now self.new.out.now self.old.at self.new.at (item_bytes shape x) }
+        ensures { Writes self.old self.new (item_bytes shape x) }
     {
         match shape {
             Shape::Operation => self.put(&[x.code, x.key]),
@@ -472,8 +499,7 @@ impl Writer<'_> {
     fn list(&mut self, shape: Shape, list: &Items)
         requires few { list.now.count ≤ 4 }
         requires room { self.old.at + 1 + width shape * list.now.count ≤ length self.old.out.now }
-        ensures same_area { self.new.out.ghost_name ≡ self.old.out.ghost_name }
-        ensures put { Put self.old.out.now self.new.out.now self.old.at self.new.at (list_bytes shape list.now.count list.now.items) }
+        ensures { Writes self.old self.new (list_bytes shape list.now.count list.now.items) }
     {
         self.put(&[list.count]);
         for x in list.as_slice() {
@@ -484,8 +510,7 @@ impl Writer<'_> {
     // The fields of each kind.
     fn fields(&mut self, head: Head)
         requires { self.old.at + field_width head ≤ length self.old.out.now }
-        ensures same_area { self.new.out.ghost_name ≡ self.old.out.ghost_name }
-        ensures put { Put self.old.out.now self.new.out.now self.old.at self.new.at (field_bytes head) }
+        ensures { Writes self.old self.new (field_bytes head) }
     {
         match head {
             Head::Bad => {}
@@ -534,25 +559,27 @@ impl Writer<'_> {
 // Writes the frame's bytes from the first byte of the out area on and returns how many these are. A refused frame has no bytes.
 // Where the frame has more than four items or the room is too small it writes nothing and returns 0. The bytes are the rules' own and are
 // read as the same frame: laws `writes_mean`, `record-bytes` and `frame_back`; what a caller with room gets: `writes` and `lays`.
+// 0 and no Option where nothing is written: by `written_of`, which docs/PROMISES.md names, the answer is a number.
 pub fn write_frame(f: Frame, out: &mut [u8]) -> usize
     ensures value { result ≡ written_of f (length out.old) }
     ensures out_after { out.new ≡ laid_of f out.old }
 {
-    let kind = f.head.kind();
     let len = len_of(f.head, f.list.count);
-    if kind == 0 || 4 < f.list.count || out.len() < LENGTH + len {
+    if f.head.is_bad() || 4 < f.list.count || out.len() < LENGTH + len {
         return 0;
     }
     let mut writer = Writer { out, at: 0 };
     writer.put16(len as u16);
-    writer.put16(kind);
+    writer.put16(f.head.kind());
     writer.fields(f.head);
     writer.list(f.head.shape(), &f.list);
     writer.at
 }
 
 // The same behind the first `at` bytes, for frames back to back: returns where the frame's bytes end, and `at` where it writes nothing.
-// Several in turn leave all their bytes from the first on and nothing else changed: `lays_all`.
+// Several in turn leave all their bytes from the first on and nothing else changed: `lays_behind`.
+// `at` beside `out`, and `at` again where nothing is written: `end_of` and `laid_behind`, which docs/PROMISES.md names, are of the two.
+#[tactic(auto, using(crate::proofs::Behind::laid, crate::proofs::Behind::end_small), unfolding(crate::specs::Choosing::choosing, crate::specs::Frames::end_of, crate::specs::Frames::laid_behind))]
 pub fn write_behind(f: Frame, out: &mut [u8], at: usize) -> usize
     ensures value { result ≡ end_of f at (length out.old) }
     ensures out_after { out.new ≡ laid_behind f at out.old }

@@ -3,13 +3,15 @@
 -- Assumes nothing.
 use mathlib.Core.Path.{◌≡◌, refl, ap, sym, ◌∙◌}
 use mathlib.Core.Bool.{Bool, true, false, cond}
-use mathlib.Core.List.{List, [], ◌∷◌, ◌++◌, append_assoc}
+use mathlib.Core.List.{List, [], ◌∷◌, ◌++◌}
 use Prim.Native.Nat.{ℕ, zero, suc, ◌+◌, ◌/◌, ◌%◌, ◌^◌, ◌<◌, ◌≤◌}
 use native.Mathlib.Omega.{arith}
 use native.Mathlib.Nat.{pow-suc}
 use lib.Dec.{ltb}
 use lib.ListN.{length, length-append}
 use borrow.Author.Tests.{lt-ltb, le-ltb, ltb-true, ltb-false}
+use Rattle.std.specs.Fmt.{decimal}
+use Rattle.std.proofs.lemmas.Fmt.{decimal_by_steps}
 use Rattle.lines.specs.Text.{digits, decimal_of}
 
 pub small : (places x : ℕ) → x < 10 → digits (suc places) x ≡ (48 + x) ∷ []
@@ -52,8 +54,13 @@ decimal_small x h = small 19 x h
 pub decimal_large : (x : ℕ) → 10 ≤ x → x < 2 ^ 64 → decimal_of x ≡ decimal_of (x / 10) ++ (48 + x % 10) ∷ []
 decimal_large x l h = large 19 x l ∙ ap (λ (ds : List ℕ). ds ++ (48 + x % 10) ∷ []) (sym (more 18 (x / 10) (omega arith)))
 
+-- they are those that the crate itoa writes
+pub decimal_is : (x : ℕ) → x < 2 ^ 64 → decimal x ≡ decimal_of x
+decimal_is x h = decimal_by_steps (λ n ds. n < 2 ^ 64 → ds ≡ decimal_of n) (λ n d l. sym (decimal_small n d))
+    (λ n ds l p h. ap (λ (k : List ℕ). k ++ (48 + n % 10) ∷ []) (p (omega arith)) ∙ sym (decimal_large n l h)) x h h
+
 -- how long a line is so far
 pub ruleset lengths = (decimal_few, length-append)
 
 -- what `decimal` is proved by
-pub ruleset decimal_laws = (decimal_small, decimal_large, length-append, append_assoc)
+pub ruleset decimal_laws = (decimal_is, length-append)

@@ -1,6 +1,7 @@
 // The lines that the bench program writes (01, "The bench program"), as bytes. Each function lays one line from the first byte of an area, leaves
 // the other bytes as they were, and answers how many bytes the line has. An area of less than 128 bytes takes no line: it stays as it was, and the
-// answer is 0. Every line ends with one newline.
+// answer is 0. Every line ends with one newline. The area is the caller's and the count is answered: nothing is allocated. 0 and no
+// Option where it takes no line: Laid, by which each line is promised, is of a number.
 #![tactic(auto)]
 
 ghost use Rattle.std.specs.Prelude.{◌≡◌, List, ℕ, ◌∷◌, [], ◌++◌, length, take, ◌+◌, ◌<◌, ◌≤◌};
@@ -23,7 +24,7 @@ pub fn header(n: u8, m: u8, out: &mut [u8]) -> usize
     line.lay(out)
 }
 
-// A d line: record index, answer, frames sent.
+// A d line: record index, answer, frames sent. The answer is its number: the definition d_line, which the line is stated by, is over it.
 #[tactic(auto, using(crate::proofs::Digits::lengths), unfolding(crate::specs::Text::d_line))]
 pub fn d_line(index: u64, answer: u8, frames: u8, out: &mut [u8]) -> usize
     ensures { Laid (d_line index answer frames) out.old out.new result }
@@ -36,7 +37,8 @@ pub fn d_line(index: u64, answer: u8, frames: u8, out: &mut [u8]) -> usize
     line.lay(out)
 }
 
-// An L line: board, log number, client, number, and PRE or EXE.
+// An L line: board, log number, client, number, and PRE or EXE: exe as the entry has it, and as the definition l_line is over it.
+// client and number one by one: l_line is over them so, and this crate stands on no other of the repository.
 #[tactic(auto, using(crate::proofs::Digits::lengths), unfolding(crate::specs::Text::l_line))]
 pub fn l_line(
     board: u8,
@@ -78,9 +80,10 @@ pub fn setup_line(out: &mut [u8]) -> usize
 }
 
 // How many bytes an area must have to take a line. No line has more.
-const ROOM: usize = 128;
+pub const ROOM: usize = 128;
 
-// A line as it is written, part by part.
+// A line as it is written, part by part. No ArrayVec of the kit: its try_extend_from_slice answers a Result that each line
+// would throw away, where word asks for the room and is proved to have it.
 #[derive(Drop)]
 struct Line {
     bytes: [u8; ROOM],
@@ -115,15 +118,13 @@ impl Line {
         self.byte(end);
     }
 
+    // A number in decimal, as the crate itoa of the kit writes it.
     #[tactic(auto, using(crate::proofs::Digits::decimal_laws))]
     fn decimal(&mut self, x: u64)
         requires { length self.old + length (decimal_of x) ≤ ROOM }
         ensures { self.new ≡ self.old ++ decimal_of x }
     {
-        if 10 <= x {
-            self.decimal(x / 10);
-        }
-        self.byte(b'0' + (x % 10) as u8);
+        self.word(itoa::Buffer::new().format(x).as_bytes());
     }
 
     fn word(&mut self, word: &[u8])

@@ -7,12 +7,15 @@ ghost use Rattle.std.specs.Prelude.{◌≡◌, length};
 ghost use Rattle.records.specs.Records.{usable_of, next_of, receiver_of};
 ghost use Rattle.records.specs.Front.{part_length, front_of};
 
-// "Bad or missing n or m: only `setup 11`."
+// "Bad or missing n or m: only `setup 11`." Beside board's and shard's own tests of n and m: no crate with code lies under the three.
 pub fn usable(n: u8, m: u8) -> bool
     ensures { result ≡ usable_of n m }
 {
     (2..=8).contains(&n) && (1..=8).contains(&m)
 }
+
+// The most bytes that the frame of a record has.
+const LONGEST: usize = 36;
 
 // What stands at the front of some bytes. An enum of three: a reader goes on after Need and stops after Cut, and bench_means' definitions are over
 // these three.
@@ -33,8 +36,8 @@ pub fn record_at(s: &[u8]) -> Next
     let [address, low, high, rest @ ..] = s else {
         return Next::Need;
     };
-    let length = u16::from_le_bytes([*low, *high]) as usize;
-    if length > 36 {
+    let length = usize::from(u16::from_le_bytes([*low, *high]));
+    if length > LONGEST {
         return Next::Cut;
     }
     if rest.len() < length {
@@ -61,13 +64,14 @@ pub fn named(n: u8, m: u8, address: u8) -> Receiver
     ensures { result ≡ receiver_of n m address }
 {
     match address {
-        1..=8 if address <= n => Receiver::Board(address as usize - 1),
-        17..=24 if address - 16 <= m => Receiver::Shard(address as usize - 17),
+        1..=8 if address <= n => Receiver::Board(usize::from(address) - 1),
+        17..=24 if address - 16 <= m => Receiver::Shard(usize::from(address) - 17),
         _ => Receiver::Nobody,
     }
 }
 
-// The bytes from..end of s are moved to its front; how many they are. Where there is no such part nothing is moved.
+// The bytes from..end of s are moved to its front; how many they are. Where there is no such part nothing is moved, and 0, no Option, is
+// answered: part_length, which docs/PROMISES.md names, is a number. The area is the caller's and the count is answered: nothing is allocated.
 #[tactic(auto, using(crate::proofs::Front::front_laws))]
 pub fn to_front(s: &mut [u8], from: usize, end: usize) -> usize
     ensures { (result ≡ part_length from end (length s.old)) × (s.new ≡ front_of from end s.old) }

@@ -1,8 +1,9 @@
 // Why a call was refused (01, "Refusal numbers"): an error of its own in place of a number. Its number is what the answer of a call shows.
 #![tactic(auto)]
 
-ghost use Rattle.std.specs.Prelude.{◌≡◌};
-ghost use Rattle.refusal.specs.Number.{number_of};
+ghost use Rattle.std.specs.Prelude.{◌≡◌, Result};
+ghost use Rattle.rules.specs.Outcomes.{unusable};
+ghost use Rattle.refusal.specs.Number.{number_of, answer_of};
 
 // The causes in the order of their numbers, 1 to 11.
 #[derive(Clone, Copy, Debug, PartialEq, Eq)]
@@ -38,4 +39,21 @@ impl From<Refusal> for u8 {
     fn from(refusal: Refusal) -> u8 {
         refusal as u8
     }
+}
+
+// The answer that a call shows: 0 where it was taken, else the refusal's number.
+pub fn answer<T: Copy>(outcome: Result<T, Refusal>) -> u8
+    ensures { result ≡ answer_of outcome }
+{
+    outcome.err().map_or(0, u8::from)
+}
+
+// "An out area must have at least 68 bytes."
+pub const LEAST_OUT: usize = 68;
+
+// 11, of every call but a start: the start was refused, or the out area is under 68 bytes.
+pub fn unusable(started: bool, room: usize) -> bool
+    ensures { result ≡ unusable started room }
+{
+    !started || room < LEAST_OUT
 }

@@ -1,4 +1,4 @@
--- What a covered function gives is the record and what stands beside it. Here the one is taken off, and the two are put together again.
+-- What a call comes to is the record at its return and what it answers. Here the one is taken off, and the two are put together again.
 -- Assumes nothing.
 use Rattle.std.specs.Prelude.{ℕ, Result, Ok, Err}
 use Rattle.rules.specs.Answers.{done}

@@ -6,10 +6,10 @@
 // at exit. Beside it stands what that means in the rules' words, of a record that starts and calls have made (Held); and the promise once
 // more as a relation over memory before and after (specs/Promised.antt), of which proofs/Fresh.antt shows that a start depends on its setup
 // alone. Crate register_c exports the functions for C (include/register.h), and proofs/InMemory.antt has how the records lie.
+// Held is a premise and no invariant of a type: C may hand in any record, and value is promised of these too.
 #![tactic(auto)]
 
 ghost use Rattle.std.specs.Prelude.{◌≡◌, length};
-ghost use Rattle.refusal.specs.Number.{answer_of};
 ghost use Rattle.session.specs.Model.{started_of, invoked_of, invoke_out, retried_of, retry_out, responded_of};
 ghost use Rattle.session.specs.View as SessionView;
 ghost use Rattle.board.specs.Model as Boards;
@@ -20,13 +20,14 @@ ghost use Rattle.register.specs.Given.{shown, started, submitted, responded, boa
 ghost use Rattle.register.specs.Promised.{SessionStarts, SessionInvokes, SessionRetries, SessionResponds, BoardStarts, BoardSteps, ShardStarts, ShardSteps};
 
 use board::Board;
-use refusal::Refusal;
+use refusal::{Refusal, answer};
 use session::{Operations, Reply, Sent, Session};
 use shard::Shard;
 
 // The answer of a board's step and of a shard group's: a refusal's number or 0, and "the counts of frames and bytes".
+// C lays it out, so that the answer is a number and no Result.
 #[repr(C)]
-#[derive(Clone, Copy)]
+#[derive(Clone, Copy, Debug, Default, PartialEq, Eq)]
 pub struct Stepped {
     pub answer: u8,
     pub frames: u8,
@@ -46,23 +47,16 @@ impl From<Result<send::Sent, Refusal>> for Stepped {
             },
             Err(refusal) => Stepped {
                 answer: refusal.into(),
-                frames: 0,
-                bytes: 0,
+                ..Stepped::default()
             },
         }
     }
 }
 
-// The answer of a start: a refusal's number, or 0.
-fn answer(start: Result<(), Refusal>) -> u8
-    ensures { result ≡ answer_of start }
-{
-    start.err().map_or(0, u8::from)
-}
-
 // What a lent record comes to where it goes to a callee by value, whatever that is: what the callee leaves of it is stored back, and what stood beside
 // it is the answer. So what the callee ensures of the two holds of the lent record and the answer. The functions below need no such copy: what they
 // call changes the lent record in place.
+// Nothing calls it: docs/PROMISES.md names its contract, which says this of any callee.
 fn thin<T: Copy, A, F: FnOnce(T) -> (T, A)>(lent: &mut T, callee: F) -> A
     requires { F.pre callee lent.old }
     ensures { F.post callee lent.old (lent.new, result) }
@@ -118,6 +112,7 @@ pub fn session_response(s: &mut Session, frame: &[u8]) -> Reply
 // ---- A board
 
 // Refusal 11. What the board held before is not looked at; the promise names it and says nothing of it.
+// n, m and own one by one: so C hands them in.
 pub fn board_start(b: &mut Board, n: u8, m: u8, own: u8) -> u8
     ensures value { (result ≡ (Boards.start_of n m own).answer) × (b.new ≡ (Boards.start_of n m own).board) }
     ensures start_means { BoardView.StartMeans n m own (board_started b.new result) }
@@ -156,7 +151,7 @@ pub fn shard_step(s: &mut Shard, frame: &[u8], out: &mut [u8]) -> Stepped
     ensures step_means { ShardView.Held s.old → ShardView.StepMeans s.old frame.now out.old (shard_stepped s.new result) out.new }
     ensures shard_steps { ShardSteps s.old frame.now out.old result s.new out.new }
 {
-    // a step that is taken sends one frame
+    // a step that is taken sends one frame, and Shard::step gives its bytes alone
     s.step(frame, out)
         .map(|bytes| send::Sent { frames: 1, bytes })
         .into()

@@ -1,5 +1,6 @@
 // The register for C: each function of crate register under the name and with the clauses that it has there, exported from a static library.
 // include/register.h has these functions; a C program links with libregister.a, which is this crate's archive under that name.
+// The functions stand twice for C's sake: a crate is a library or a static library, and no crate may stand on a static library.
 #![tactic(auto)]
 
 ghost use Rattle.std.specs.Prelude.{◌≡◌, length};

@@ -30,6 +30,10 @@ use Rattle.session.proofs.Tells.{started_told, submitted_told, responded_told}
 pub start_promised : (client : ℕ) (r : Started) → r ≡ started_of client → (r ≡ started_of client) × StartMeans client r
 start_promised client r p = (p, rw p (start_means client))
 
+-- of a start's result alone
+pub start_meant : (client : ℕ) (r : Started) → r ≡ started_of client → StartMeans client r
+start_meant client r p = (start_promised client r p).1
+
 pub invoke_promised : (s : Session) (ops : Operations) (out : List ℕ) → Sized ops → (r : Submitted) (left : List ℕ) →
     (r ≡ invoked_of s ops out) × (left ≡ invoke_out s ops out) →
     ((r ≡ invoked_of s ops out) × (left ≡ invoke_out s ops out)) × (Held s → InvokeMeans s ops out r left)
@@ -46,21 +50,37 @@ response_promised s bytes b r p = (p, λ h. rw p (response_means s bytes h b))
 
 -- ---- A promise admits one outcome
 
-pub one_start : (client : ℕ) (a b : Session) (q r : Result (Unit {0}) Refusal) → started_shown a q ≡ started_of client → started_shown b r ≡ started_of client → (a ≡ b) × (q ≡ r)
-one_start client a b q r e d = started_told a b q r (e ∙ sym d)
+pub one_start : (client : ℕ) (r t : Started) → r ≡ started_of client → t ≡ started_of client → r ≡ t
+one_start client r t p q = p ∙ sym q
 
-pub one_invoke : (s : Session) (ops : Operations) (out : List ℕ) (a b : Session) (q r : Result Submission Refusal) (left rest : List ℕ) →
+pub one_invoke : (s : Session) (ops : Operations) (out : List ℕ) (r t : Submitted) (left rest : List ℕ) → (r ≡ invoked_of s ops out) × (left ≡ invoke_out s ops out) →
+    (t ≡ invoked_of s ops out) × (rest ≡ invoke_out s ops out) → (r ≡ t) × (left ≡ rest)
+one_invoke s ops out r t left rest p q = (p.0 ∙ sym q.0, p.1 ∙ sym q.1)
+
+pub one_retry : (s : Session) (number : ℕ) (out : List ℕ) (r t : Submitted) (left rest : List ℕ) → (r ≡ retried_of s number out) × (left ≡ retry_out s number out) →
+    (t ≡ retried_of s number out) × (rest ≡ retry_out s number out) → (r ≡ t) × (left ≡ rest)
+one_retry s number out r t left rest p q = (p.0 ∙ sym q.0, p.1 ∙ sym q.1)
+
+pub one_response : (s : Session) (bytes : List ℕ) (r t : Responded) → r ≡ responded_of s bytes → t ≡ responded_of s bytes → r ≡ t
+one_response s bytes r t p q = p ∙ sym q
+
+-- The same of what the calls give: a result and the session that it leaves.
+
+pub start_once : (client : ℕ) (a b : Session) (q r : Result (Unit {0}) Refusal) → started_shown a q ≡ started_of client → started_shown b r ≡ started_of client → (a ≡ b) × (q ≡ r)
+start_once client a b q r e d = started_told a b q r (e ∙ sym d)
+
+pub invoke_once : (s : Session) (ops : Operations) (out : List ℕ) (a b : Session) (q r : Result Submission Refusal) (left rest : List ℕ) →
     (submitted_shown a q ≡ invoked_of s ops out) × (left ≡ invoke_out s ops out) → (submitted_shown b r ≡ invoked_of s ops out) × (rest ≡ invoke_out s ops out) →
     (a ≡ b) × (q ≡ r) × (left ≡ rest)
-one_invoke s ops out a b q r left rest e d = let told = submitted_told a b q r (e.0 ∙ sym d.0) in (told.0, told.1, e.1 ∙ sym d.1)
+invoke_once s ops out a b q r left rest e d = let told = submitted_told a b q r (e.0 ∙ sym d.0) in (told.0, told.1, e.1 ∙ sym d.1)
 
-pub one_retry : (s : Session) (number : ℕ) (out : List ℕ) (q r : Result Submission Refusal) (left rest : List ℕ) →
+pub retry_once : (s : Session) (number : ℕ) (out : List ℕ) (q r : Result Submission Refusal) (left rest : List ℕ) →
     (submitted_shown s q ≡ retried_of s number out) × (left ≡ retry_out s number out) → (submitted_shown s r ≡ retried_of s number out) × (rest ≡ retry_out s number out) →
     (q ≡ r) × (left ≡ rest)
-one_retry s number out q r left rest e d = ((submitted_told s s q r (e.0 ∙ sym d.0)).1, e.1 ∙ sym d.1)
+retry_once s number out q r left rest e d = ((submitted_told s s q r (e.0 ∙ sym d.0)).1, e.1 ∙ sym d.1)
 
-pub one_response : (s : Session) (bytes : List ℕ) (a b : Session) (q r : Result Answer Refusal) → responded_shown a q ≡ responded_of s bytes → responded_shown b r ≡ responded_of s bytes → (a ≡ b) × (q ≡ r)
-one_response s bytes a b q r e d = responded_told a b q r (e ∙ sym d)
+pub response_once : (s : Session) (bytes : List ℕ) (a b : Session) (q r : Result Answer Refusal) → responded_shown a q ≡ responded_of s bytes → responded_shown b r ≡ responded_of s bytes → (a ≡ b) × (q ≡ r)
+response_once s bytes a b q r e d = responded_told a b q r (e ∙ sym d)
 
 -- ---- A refusal changes nothing, whatever the session's bits
 

@@ -14,7 +14,9 @@ use Rattle.rules.proofs.Lists.{by}
 use Rattle.window.specs.Model as W
 use Rattle.window.proofs.Ruled.{fresh_has_none}
 use Rattle.session.specs.declared.Session.{Session}
-use Rattle.session.specs.Model.{Started, unstarted, started_of, sending, retrying}
+use Rattle.session.specs.declared.Operations.{Operations}
+use Rattle.session.specs.Model.{Started, unstarted, started_of, refusal, sending, invoking, retrying, given, invoked_of, retried_of, responded_of}
+use mathlib.Core.List.{List}
 
 -- ---- start
 
@@ -31,10 +33,13 @@ none_outstanding client number =
 
 -- ---- unstarted
 
--- a session that takes calls
-pub unstarted_takes_none : unstarted.started ≡ false
-unfolding unstarted
-unstarted_takes_none = refl
+-- a call that it takes
+pub unstarted_takes_none : (ops : Operations) (number : ℕ) (bytes out : List ℕ)
+    → ((invoked_of unstarted ops out).sent.answer ≡ not_usable)
+    × ((retried_of unstarted number out).sent.answer ≡ not_usable)
+    × ((responded_of unstarted bytes).reply.answer ≡ not_usable)
+unfolding unstarted invoked_of invoking retried_of retrying responded_of given refusal If◌then◌else◌
+unstarted_takes_none ops number bytes out = (refl, refl, refl)
 
 -- a number outstanding in it
 pub unstarted_has_none : (number : ℕ) → W.is_outstanding unstarted.window.slots number ≡ false

@@ -4,7 +4,7 @@ use mathlib.Core.Bool.{true, false, not, ◌&&◌}
 use mathlib.Core.List.{List, [], ◌∷◌}
 use mathlib.Core.Logic.{⊎_elim}
 use Prim.Native.Nat.{ℕ, ◌≤◌, ◌<◌}
-use borrow.Author.Tests.{le-leb, lt-leb, eq-eqb, ne_eqb}
+use borrow.Author.Tests.{le-leb, lt-leb, ne_eqb}
 use native.Mathlib.Omega.{arith}
 use types.Run.{OneOf}
 use denote.Enum.Declared.{tag_of}
@@ -15,7 +15,6 @@ use Rattle.rules.specs.Lists.{If◌then◌else◌}
 use Rattle.rules.specs.Answers.{breaks_rule}
 use Rattle.rules.specs.Outcomes.{unusable}
 use Rattle.refusal.specs.declared.Refusal.{Refusal}
-use Rattle.refusal.specs.declared.Refusal.TheVariants.{NotForMe, TooLate, DoesNotFit}
 use Rattle.refusal.specs.Number.{number_of}
 use Rattle.refusal.proofs.Tells.{number_not_done}
 use Rattle.frames.specs.declared.Item.{Item}
@@ -25,7 +24,6 @@ use Rattle.frames.specs.declared.Head.TheVariants.{Bad, Submit, Forward, ShardAp
 use Rattle.frames.specs.contracts.Head as H
 use Rattle.frames.specs.declared.Frame.{Frame}
 use Rattle.frames.specs.Frames.{ok_items, read_frame, laid_of}
-use Rattle.entry.specs.Model.{fits_of}
 use Rattle.window.specs.declared.Window.{Window}
 use Rattle.window.specs.Model.{smallest_of}
 use Rattle.window.specs.Model as W
@@ -33,7 +31,7 @@ use Rattle.window.proofs.Kept.{list_none, list_some}
 use Rattle.session.specs.declared.Session.{Session}
 use Rattle.session.specs.declared.Operations.{Operations}
 use Rattle.session.specs.declared.Submission.{Submission}
-use Rattle.session.specs.Model.{list_of, ok_asked, Call, refusal, sending, given, laid, sent_shown, submitted_shown, with_window, taking, invoking, retrying, submit_frame, sent_of, responded_shown, declined_of, heard_of, by_head, responded_of}
+use Rattle.session.specs.Model.{list_of, ok_asked, Call, refusal, sending, given, laid, sent_shown, submitted_shown, with_window, taking, invoking, retrying, submit_frame, sent_of, declined_of, by_head, responded_of}
 
 -- ---- What is given of a call
 
@@ -108,30 +106,6 @@ module _ (s : Session) (number out : ℕ) where
         rw (u, x.0, ← x.1, ← x.2)
 
 -- ---- Response
-
-module _ (s : Session) (client number : ℕ) (reads : Items) where
-  pub heard_other : (client ≡ s.client → ⊥) → responded_shown s (Err NotForMe) ≡ heard_of s client number reads.count reads.items
-  unfolding heard_of If◌then◌else◌
-  heard_other d = rw (ne_eqb client s.client d)
-
-  module _ (own : client ≡ s.client) where
-    pub heard_late : None ≡ W.list_in (W.kept_of s.window number) → responded_shown s (Err TooLate) ≡ heard_of s client number reads.count reads.items
-    unfolding heard_of If◌then◌else◌
-    heard_late e = rw (eq-eqb client s.client own, list_none (W.kept_of s.window number) e)
-
-    module _ (kept : Items) (e : Some kept ≡ W.list_in (W.kept_of s.window number)) where
-      pub heard_wrong : fits_of kept.count kept.items reads.count reads.items ≡ false → responded_shown s (Err DoesNotFit) ≡ heard_of s client number reads.count reads.items
-      unfolding heard_of If◌then◌else◌
-      heard_wrong w =
-          let x = list_some (W.kept_of s.window number) kept e in
-          rw (eq-eqb client s.client own, x.0, ← x.1, ← x.2, w)
-
-      pub heard_answers : fits_of kept.count kept.items reads.count reads.items ≡ true → (after : Window) → after ≡ W.answered_of s.window number →
-          responded_shown (with_window after s) (Ok (record { number = number; reads = reads })) ≡ heard_of s client number reads.count reads.items
-      unfolding heard_of If◌then◌else◌
-      heard_answers w after a =
-          let x = list_some (W.kept_of s.window number) kept e in
-          rw (eq-eqb client s.client own, x.0, ← x.1, ← x.2, w, a)
 
 -- a frame was read, and its kind decides
 pub by_kind : (s : Session) (bytes : List ℕ) (f : Frame) (head : Head) → s.started ≡ true → f ≡ read_frame bytes → f.head ≡ head →

@@ -6,7 +6,7 @@ use session::{Asked, Operations, Reply, Sent, Session};
 use std::io;
 
 // What an invocation gave, and the ack that stands in Submit.
-#[derive(Clone, Copy)]
+#[derive(Clone, Copy, Debug, PartialEq, Eq)]
 struct Seen {
     sent: Sent,
     ack: u16,

@@ -49,19 +49,27 @@ pub record Along (ind : ℕ) (xs : List Item) (s₀ s : Shard) (rs₀ rs : Items
   pub started : s.started ≡ s₀.started
 
 module _ (ind : ℕ) (xs : List Item) (s₀ s : Shard) (rs₀ rs : Items) (i : ℕ) (a : Along ind xs s₀ s rs₀ rs i) where
-  pub along_on : (c : Cell) (rs' : Items) → i < length xs
-      → rs' ≡ noted rs (get_or xs i no_item) (cell_at s.cells (get_or xs i no_item).key)
-      → c ≡ cell_after ind (get_or xs i no_item) (cell_at s.cells (get_or xs i no_item).key)
+  abbrev turn_at : ℕ → Running
+  turn_at key =
+      record {
+        cells = set s.cells key (cell_after ind (get_or xs i no_item) (cell_at s.cells key));
+        reads = noted rs (get_or xs i no_item) (cell_at s.cells key);
+      }
+
+  -- key is what becomes of the item's key in a wider word
+  pub along_on : (key : ℕ) (c : Cell) (rs' : Items) → i < length xs → key ≡ (get_or xs i no_item).key
+      → rs' ≡ noted rs (get_or xs i no_item) (cell_at s.cells key)
+      → c ≡ cell_after ind (get_or xs i no_item) (cell_at s.cells key)
       → Along ind xs s₀
-      (record { cells = set s.cells (get_or xs i no_item).key c; ssn = s.ssn; last_run = s.last_run; m = s.m; own = s.own; started = s.started })
+      (record { cells = set s.cells key c; ssn = s.ssn; last_run = s.last_run; m = s.m; own = s.own; started = s.started })
       rs₀ rs' (i + 1)
   unfolding turn
-  along_on c rs' k e d =
+  along_on key c rs' k q e d =
       record {
-        size = length-set s.cells (get_or xs i no_item).key c ∙ a.size;
+        size = length-set s.cells key c ∙ a.size;
         run =
-            (λ j. ran ind (drop (i + 1) xs) (record { cells = set s.cells (get_or xs i no_item).key (d j); reads = e j }))
-            ∙ ran_on xs ind i no_item (record { cells = s.cells; reads = rs }) k ∙ a.run;
+            (λ j. ran ind (drop (i + 1) xs) (record { cells = set s.cells key (d j); reads = e j }))
+            ∙ (λ j. ran ind (drop (i + 1) xs) (turn_at (q j))) ∙ ran_on xs ind i no_item (record { cells = s.cells; reads = rs }) k ∙ a.run;
         m = a.m;
         own = a.own;
         started = a.started;

@@ -11,20 +11,19 @@ ghost use Rattle.shard.specs.View.{Held, StartMeans, StepMeans};
 use frames::{Frame, Head, Item, Items, LogNumber};
 use refusal::Refusal;
 
-// "An out area must have at least 68 bytes."
-const LEAST_OUT: usize = 68;
-
 // What the group has for a key: the value last put and the log number that put it. A key never put is absent, and its cell
-// is zero. In this order of fields a cell is 8 bytes. C lays it out.
+// is zero. In this order of fields a cell is 8 bytes.
+// C lays it out, so it is no Option: present stands beside the value.
 #[repr(C)]
-#[derive(Clone, Copy, Default)]
+#[derive(Clone, Copy, Debug, Default, PartialEq, Eq)]
 pub struct Cell {
     pub value: u32,
     pub log_number: LogNumber,
     pub present: bool,
 }
 
-// Shard group own of m, a cell for each key. last_run is 1 more than the log number last run, and 0 where none was. C lays it out.
+// Shard group own of m, a cell for each key. last_run is 1 more than the log number last run, and 0 where none was.
+// C lays it out, so its fields stand flat and "none" is a number. Clone and Copy alone: nothing compares or prints it.
 #[repr(C)]
 #[derive(Clone, Copy)]
 pub struct Shard {
@@ -37,13 +36,14 @@ pub struct Shard {
 }
 
 // The log number and sn of the ShardAppend that a frame is, where it is to be run.
-#[derive(Clone, Copy)]
+#[derive(Clone, Copy, Debug, PartialEq, Eq)]
 struct Append {
     log_number: LogNumber,
     sn: u16,
 }
 
 // A group of m, and its own number: "Shard groups m: 1..8", 1..m.
+// board (in_range) and records (usable) test the range of m too: no crate with code lies under the three.
 fn in_range(m: u8, own: u8) -> bool
     ensures { result ≡ (within 1 8 m && within 1 m own) }
 {
@@ -53,6 +53,7 @@ fn in_range(m: u8, own: u8) -> bool
 // ---- An item and its cell
 
 // "Key k belongs to shard (k mod m) + 1."
+// Not entry::shard_of: that is 0 where there are no groups, which an own number 0 would equal, and mine is false there.
 #[tactic(auto, using(std::proofs::lemmas::Bool::Decides::nat_tests), unfolding(crate::specs::Model::mine))]
 fn is_mine(m: u8, own: u8, x: Item) -> bool
     ensures { result ≡ mine m own x }
@@ -67,6 +68,7 @@ fn all_mine(m: u8, own: u8, list: &Items) -> bool
 }
 
 // What a get says of its key's cell; a value is 0 if its key is absent.
+#[tactic(auto, unfolding(frames::specs::Choosing::choosing, crate::specs::Model::read_of))]
 fn read_of(x: Item, cell: Cell) -> Item
     ensures { result ≡ read_of x cell }
 {
@@ -85,6 +87,7 @@ fn read_of(x: Item, cell: Cell) -> Item
 }
 
 // A get adds what it sees, a put nothing.
+#[tactic(auto, unfolding(frames::specs::Choosing::choosing, frames::specs::Items::pushed_on, crate::specs::Model::noted))]
 fn note(reads: &mut Items, x: Item, cell: Cell)
     ensures { reads.new ≡ noted reads.old x cell }
 {
@@ -94,22 +97,23 @@ fn note(reads: &mut Items, x: Item, cell: Cell)
 }
 
 // "Each put stores the value and the log number"; a get leaves its cell as it is.
+#[tactic(auto, unfolding(frames::specs::Choosing::choosing, crate::specs::Model::cell_after))]
 fn cell_after(log_number: LogNumber, x: Item, cell: Cell) -> Cell
     ensures { result ≡ cell_after log_number x cell }
 {
-    let is_get = x.code == 0;
-    if is_get {
-        return cell;
+    if x.code != 0 {
+        return Cell {
+            value: x.value,
+            log_number,
+            present: true,
+        };
     }
-    Cell {
-        value: x.value,
-        log_number,
-        present: true,
-    }
+    cell
 }
 
 impl Shard {
     // The group that a refused start leaves: without a key, and not started.
+    // By hand: a Default derived over 256 cells was tried and did not prove.
     #[tactic(auto, unfolding(crate::specs::Model::empty_shard))]
     pub fn unstarted() -> Shard
         ensures { result ≡ empty_shard 0 0 false }
@@ -141,10 +145,11 @@ impl Shard {
     }
 
     // The refusals in their order: 11, 1, 2, 7, 4, 8.
+    #[tactic(auto, unfolding(frames::specs::Choosing::choosing, crate::specs::Model::judge, crate::specs::Model::judge_head, crate::specs::Model::judge_append))]
     fn judge(&self, room: usize, f: &Frame) -> Result<Append, Refusal>
         ensures { shown_verdict result ≡ judge self.now.started room self.now.m self.now.own self.now.ssn self.now.last_run f.now }
     {
-        if !self.started || room < LEAST_OUT {
+        if refusal::unusable(self.started, room) {
             return Err(Refusal::NotUsable);
         }
         let (shard, log_number, sn) = match f.head {
@@ -176,6 +181,7 @@ impl Shard {
     // returned is how many bytes it has. A refusal leaves the group and the out area as they were. What is promised is every field and every
     // byte of the out area, whatever the group's bits; and, of a group that is held, as every start gives it and every step keeps it, that
     // they mean the rules' step.
+    // Held is a premise and no invariant of the type: C may hand in any record, and value and refusal are promised of these too.
     pub fn step(&mut self, frame: &[u8], out: &mut [u8]) -> Result<usize, Refusal>
         ensures value { (shown self.new result ≡ step_of self.old frame.now (length out.old))
             × (out.new ≡ out_of self.old frame.now out.old) }
@@ -186,7 +192,7 @@ impl Shard {
         let Append { log_number, sn } = self.judge(out.len(), &f)?;
         let mut reads = Items::new();
         for x in f.list.as_slice() {
-            let key = x.key as usize;
+            let key = usize::from(x.key);
             let cell = self.cells[key];
             note(&mut reads, *x, cell);
             self.cells[key] = cell_after(log_number, *x, cell);

@@ -2,21 +2,13 @@
 // program prints what it saw.
 #![tactic(auto)]
 
-ghost use Rattle.std.specs.Prelude.{◌≡◌, ◌++◌, drop, Result};
-ghost use Rattle.refusal.specs.Number.{answer_of};
+ghost use Rattle.std.specs.Prelude.{◌≡◌, ◌++◌, drop};
 ghost use Rattle.shard.specs.Model.{start_of};
 ghost use Rattle.shard_situations.specs.Expected.{answers_e, sent_g};
 
-use refusal::Refusal;
+use refusal::{LEAST_OUT, answer};
 use shard::Shard;
 use std::io;
-
-// The answer that a step shows: 0 where it was taken, else the refusal's number.
-fn answer(step: Result<usize, Refusal>) -> u8
-    ensures { result ≡ answer_of step }
-{
-    step.err().map_or(0, u8::from)
-}
 
 // Shard group 1 of 1, fresh.
 fn fresh() -> Shard
@@ -32,7 +24,7 @@ fn fresh() -> Shard
 fn play_e() -> [u8; 3]
     ensures { result ≡ answers_e }
 {
-    let mut out = [0; 68];
+    let mut out = [0; LEAST_OUT];
     let mut s = fresh();
     let early = b"\x0f\x00\x03\x00\x01\x00\x00\x02\x00\x01\x00\x01\x05\xe8\x03\x00\x00";
     let first = b"\x0f\x00\x03\x00\x01\x00\x00\x01\x00\x01\x00\x01\x05\xe8\x03\x00\x00";
@@ -43,7 +35,7 @@ fn play_e() -> [u8; 3]
 }
 
 // "put key 5 value 7, get key 5: one read, place 1, present, 7."
-fn play_g(out: &mut [u8; 68]) -> u8
+fn play_g(out: &mut [u8; LEAST_OUT]) -> u8
     ensures { (result ≡ 0) × (out.new ≡ sent_g ++ drop 14 out.old) }
 {
     let mut s = fresh();
@@ -59,22 +51,17 @@ fn main(rt: HostRuntime) -> io::Result<()> {
     check::expect(answers[2] == 7);
     print!(rt; "E")?;
     for answer in answers {
-        say(&rt, answer)?;
+        print!(rt; " {answer}")?;
     }
-    let mut out = [0u8; 68];
+    let mut out = [0u8; LEAST_OUT];
     let answer = play_g(&mut out);
     check::expect(answer == 0);
     check::expect(out[8] == 1);
     check::expect(out[9] == 1);
     check::expect(out[10] == 7);
-    print!(rt; "\nG")?;
-    say(&rt, answer)?;
+    print!(rt; "\nG {answer}")?;
     for byte in &out[..14] {
-        say(&rt, *byte)?;
+        print!(rt; " {byte}")?;
     }
     println!(rt)
-}
-
-fn say(rt: &impl Print, n: u8) -> io::Result<()> {
-    print!(rt; " {n}")
 }

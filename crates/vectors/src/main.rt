@@ -5,11 +5,11 @@
 ghost use Rattle.std.specs.Prelude.{◌<◌, ◌≤◌, length, IfOk, IfSome};
 
 use frames::{Frame, Head};
-use std::io;
 use std::io::Read;
+use std::{fmt, io};
 
 // What a line's digits turn out to be.
-#[derive(Clone, Copy)]
+#[derive(Clone, Copy, Debug, PartialEq, Eq)]
 enum Answer {
     // The bytes are read as a frame, and every way of writing it gives them again.
     Frame,
@@ -19,24 +19,31 @@ enum Answer {
     Wrong,
 }
 
-impl Answer {
-    // What is written for it.
-    fn text(self) -> &'static str {
-        match self {
+// What is written for it.
+impl fmt::Display for Answer {
+    fn fmt<W: fmt::Write>(&self, f: &mut fmt::Formatter<W>) -> fmt::Result {
+        f.write_str(match self {
             Answer::Frame => "0",
             Answer::Refused => "1",
             Answer::Wrong => "9",
-        }
+        })
     }
 }
 
 // ---- One vector
 
+// The bytes of an out area.
+const AREA: usize = 80;
+
 // An out area that nothing was written to.
-const EMPTY: [u8; 80] = [0xEE; 80];
+const EMPTY: [u8; AREA] = [0xEE; AREA];
+
+// The most bytes of a vector.
+const MOST: usize = 400;
 
 // s laid over an out area from a place on, as far as it reaches.
-fn lay(s: &[u8], at: usize, mut area: [u8; 80]) -> [u8; 80] {
+// Clipped at the area's end, and so no `copy_from_slice`, which wants two of one length.
+fn lay(s: &[u8], at: usize, mut area: [u8; AREA]) -> [u8; AREA] {
     for (to, from) in area.iter_mut().skip(at).zip(s) {
         *to = *from;
     }
@@ -60,7 +67,7 @@ fn twice(f: Frame, s: &[u8]) -> bool {
 
 // With one byte too little nothing is written and 0 is returned.
 fn never(f: Frame, s: &[u8]) -> bool {
-    if s.is_empty() || EMPTY.len() < s.len() {
+    if s.is_empty() || AREA < s.len() {
         return false;
     }
     let mut out = EMPTY;
@@ -92,6 +99,7 @@ fn answer_to(s: &[u8]) -> Answer {
 // ---- The input
 
 // A hexadecimal digit's value.
+// No `to_digit` and no crate hex: a lower case letter is no digit here.
 fn digit(c: u8) -> Option<u8>
     ensures { IfSome result (λ value. value < 16) }
 {
@@ -111,9 +119,9 @@ fn digits_end(text: &[u8]) -> usize
         .unwrap_or(text.len())
 }
 
-// The answer to the bytes that a text of digits gives; to more than 400 there is none.
+// The answer to the bytes that a text of digits gives; more than MOST are wrong.
 fn vector(text: &[u8]) -> Answer {
-    let mut bytes = [0; 400];
+    let mut bytes = [0; MOST];
     for (byte, pair) in bytes.iter_mut().zip(text.chunks_exact(2)) {
         *byte = digit(pair[0]).unwrap_or(0) * 16 + digit(pair[1]).unwrap_or(0);
     }
@@ -125,12 +133,12 @@ fn vector(text: &[u8]) -> Answer {
 
 fn line(rt: &impl Print, text: &[u8]) -> io::Result<()> {
     let (digits, rest) = text.split_at(digits_end(text));
-    let answered = vector(digits).text();
-    print!(rt; "{answered}")?;
+    print!(rt; "{}", vector(digits))?;
     rt.write_all(rest)
 }
 
 // As many bytes of the input as there are, or as find room. How many.
+// By hand: `read_to_end` wants a Vec (no heap), and `read_exact` doesn't say how many bytes came before the end.
 fn read_full(from: &mut impl Read, all: &mut [u8]) -> io::Result<usize>
     ensures { IfOk result (λ count. count ≤ length all.new) }
 {

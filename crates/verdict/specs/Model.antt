@@ -1,6 +1,6 @@
 -- What a frame comes to, on the records as they lie, for every input: each refusal in its place, or the entry as it then stands.
 -- Assumes nothing.
-use Rattle.std.specs.Prelude.{Bool, true, false, not, ◌&&◌, List, ℕ, ◌+◌, get_or, Result, Ok, Err}
+use Rattle.std.specs.Prelude.{Bool, true, false, not, ◌&&◌, List, ℕ, ◌+◌, get_or, Result, Ok, Err, Option, Some, None}
 use Rattle.rules.specs.Lists.{If◌then◌else◌, ◌<?◌, ◌≤?◌, ◌=?◌}
 use Rattle.rules.specs.Answers.{done, breaks_rule, not_for_me, below_floor, too_early, log_full, not_in_log, too_late, does_not_fit}
 use Rattle.rules.specs.Board.{log_size}
@@ -51,6 +51,11 @@ shown_verdict (Ok change) =
       sends = change.sends;
     }
 shown_verdict (Err refusal) = refuse_of (number_of refusal)
+
+-- what is judged of an entry that may not be held, as an Option has it; of one that is not held the entry doesn't count
+abbrev pub by_held : (Bool → Entry → Verdict) → Option Entry → Verdict
+by_held judged (Some e) = judged true e
+by_held judged None = judged false no_entry
 
 unfoldable pub new_of : ℕ → ℕ → ℕ → ℕ → ℕ → List Item → ℕ → Verdict
 new_of m client number ack count items len =
@@ -127,8 +132,3 @@ judge_of (ExecNotif shard ind) count items n m own floor next len held e =
 judge_of (Executed ind) count items n m own floor next len held e =
     If own <? n then judge_executed m count items len held e else refuse_of not_for_me
 judge_of (Response client number) count items n m own floor next len held e = refuse_of not_for_me
-
--- a choice between two values, opened where a goal says so
-unfoldable pub choosing : Unit {0}
-unfolding If◌then◌else◌
-choosing = tt

@@ -3,16 +3,20 @@
 // Each function's result is determined for every input by a function of specs/Model.antt.
 #![tactic(auto)]
 
-ghost use Rattle.std.specs.Prelude.{◌≡◌, true, false, get_or};
-ghost use Rattle.verdict.specs.Model.{shown_verdict, new_of, held_of, judge_submit, judge_forward, judge_exec_notif, judge_executed, judge_of};
+ghost use Rattle.std.specs.Prelude.{◌≡◌, true, false, get_or, option_copied};
+ghost use Rattle.verdict.specs.Model.{shown_verdict, new_of, held_of, judge_submit, judge_forward, judge_exec_notif, judge_executed, judge_of, by_held};
 
 use entry::Entry;
 use frames::{Frame, Head, Items, LogNumber};
 use refusal::Refusal;
 
+// "Its log has entries ..", up to this many.
+pub const LOG_SIZE: LogNumber = 256;
+
 // What a frame that is taken changes: the entry that it is about as it then stands, whether the entry is new, the log's length then,
 // the shards whose queues change, the ack that may raise the client's floor (0 raises none), and whether the entry is sent on.
-#[derive(Clone, Copy)]
+// No Option for the ack: the larger of a floor and 0 is the floor.
+#[derive(Clone, Copy, Debug, PartialEq, Eq)]
 pub struct Change {
     pub entry: Entry,
     pub fresh: bool,
@@ -29,13 +33,13 @@ pub struct Change {
 pub fn of_client<T: Copy>(column: &[T], client: u8, none: T) -> T
     ensures { result ≡ get_or column.now client none }
 {
-    column.get(client as usize).copied().unwrap_or(none)
+    column.get(usize::from(client)).copied().unwrap_or(none)
 }
 
 // ---- The kinds
 
 // A client's write, as a Submit or a Forward carries it.
-#[derive(Clone, Copy)]
+#[derive(Clone, Copy, Debug, PartialEq, Eq)]
 struct Write {
     client: u8,
     number: u16,
@@ -45,11 +49,11 @@ struct Write {
 
 impl Write {
     // "New: append and queue." Full: 5. No Forward meets a full log, since it names a log number up to 255.
-    #[tactic(auto, unfolding(crate::specs::Model::choosing, crate::specs::Model::new_of))]
+    #[tactic(auto, unfolding(frames::specs::Choosing::choosing, crate::specs::Model::new_of))]
     fn appended(&self, m: u8, len: LogNumber) -> Result<Change, Refusal>
         ensures { shown_verdict result ≡ new_of m self.now.client self.now.number self.now.ack self.now.list.count self.now.list.items len }
     {
-        if 256 <= len {
+        if LOG_SIZE <= len {
             return Err(Refusal::LogFull);
         }
         let entry = entry::new_entry(m, self.client, self.number, self.list);
@@ -64,37 +68,36 @@ impl Write {
     }
 
     // Held: the entry as it stands, if it has this client, number and operations; otherwise 8.
-    #[tactic(auto, unfolding(crate::specs::Model::choosing, crate::specs::Model::held_of))]
-    fn repeated(&self, len: LogNumber, held: bool, e: &Entry) -> Result<Change, Refusal>
-        ensures { shown_verdict result ≡ held_of self.now.client self.now.number self.now.ack self.now.list.count self.now.list.items len held e.now }
+    #[tactic(auto, unfolding(frames::specs::Choosing::choosing, crate::specs::Model::held_of))]
+    fn repeated(&self, len: LogNumber, held: Option<&Entry>) -> Result<Change, Refusal>
+        ensures { shown_verdict result ≡ by_held (held_of self.now.client self.now.number self.now.ack self.now.list.count self.now.list.items len) (option_copied held.entry) }
     {
-        if !(held && e.same_write(self.client, self.number, self.list)) {
-            return Err(Refusal::DoesNotFit);
+        match held {
+            Some(e) if e.same_write(self.client, self.number, self.list) => Ok(Change {
+                entry: *e,
+                fresh: false,
+                len,
+                shards: 0,
+                ack: self.ack, // a held number's ack counts as a new one's does
+                sends: true, // PRE or EXE: a repeat is not dropped
+            }),
+            _ => Err(Refusal::DoesNotFit),
         }
-        Ok(Change {
-            entry: *e,
-            fresh: false,
-            len,
-            shards: 0,
-            ack: self.ack, // a held number's ack counts as a new one's does
-            sends: true, // PRE or EXE: a repeat is not dropped
-        })
     }
 
-    // Submit at board 1: 3, 4, 8, 5.
-    #[tactic(auto, unfolding(crate::specs::Model::choosing, crate::specs::Model::judge_submit))]
+    // Submit at board 1: 3, 4, 8, 5. Ifs and no cmp, here and in `forwarded`: each refusal stands alone, in the order of the table.
+    #[tactic(auto, unfolding(frames::specs::Choosing::choosing, crate::specs::Model::judge_submit))]
     fn submitted(
         &self,
         m: u8,
         low: u16,
         next: u32,
         len: LogNumber,
-        held: bool,
-        e: &Entry,
+        held: Option<&Entry>,
     ) -> Result<Change, Refusal>
-        ensures { shown_verdict result ≡ judge_submit m self.now.client self.now.number self.now.ack self.now.list.count self.now.list.items low next len held e.now }
+        ensures { shown_verdict result ≡ by_held (judge_submit m self.now.client self.now.number self.now.ack self.now.list.count self.now.list.items low next len) (option_copied held.entry) }
     {
-        let number = self.number as u32;
+        let number = u32::from(self.number);
         if self.number < low {
             return Err(Refusal::BelowFloor);
         }
@@ -102,13 +105,13 @@ impl Write {
             return Err(Refusal::TooEarly);
         }
         if number < next {
-            return self.repeated(len, held, e);
+            return self.repeated(len, held);
         }
         self.appended(m, len)
     }
 
     // Forward at board i ≥ 2: 4, 8.
-    #[tactic(auto, unfolding(crate::specs::Model::choosing, crate::specs::Model::judge_forward))]
+    #[tactic(auto, unfolding(frames::specs::Choosing::choosing, crate::specs::Model::judge_forward))]
     fn forwarded(
         &self,
         m: u8,
@@ -119,14 +122,13 @@ impl Write {
     ) -> Result<Change, Refusal>
         ensures { shown_verdict result ≡ judge_forward m log_number self.now.client self.now.number self.now.ack self.now.list.count self.now.list.items next len e.now }
     {
-        let number = self.number as u32;
         if len < log_number {
             return Err(Refusal::TooEarly);
         }
         if log_number < len {
-            return self.repeated(len, true, e);
+            return self.repeated(len, Some(e));
         }
-        if number != next {
+        if u32::from(self.number) != next {
             return Err(Refusal::DoesNotFit);
         }
         self.appended(m, len)
@@ -134,20 +136,19 @@ impl Write {
 }
 
 // ExecNotif at the tail: 6, 7, 8. "strike the shard from remaining, store the reads. When none remains: EXE, and Executed goes to n−1."
-#[tactic(auto, unfolding(crate::specs::Model::choosing, crate::specs::Model::judge_exec_notif))]
+#[tactic(auto, unfolding(frames::specs::Choosing::choosing, crate::specs::Model::judge_exec_notif))]
 fn judge_exec_notif(
     m: u8,
     shard: u8,
     reads: Items,
     len: LogNumber,
-    held: bool,
-    e: &Entry,
+    held: Option<&Entry>,
 ) -> Result<Change, Refusal>
-    ensures { shown_verdict result ≡ judge_exec_notif m shard reads.count reads.items len held e.now }
+    ensures { shown_verdict result ≡ by_held (judge_exec_notif m shard reads.count reads.items len) (option_copied held.entry) }
 {
-    if !held {
+    let Some(e) = held else {
         return Err(Refusal::NotInLog);
-    }
+    };
     if !entry::in_mask(e.remaining, shard) {
         return Err(Refusal::TooLate);
     }
@@ -166,19 +167,18 @@ fn judge_exec_notif(
 }
 
 // Executed at board i < n: 6, 7, 8. "Take up to the log number on each touched shard's queue; EXE, store the reads, remaining empty."
-#[tactic(auto, unfolding(crate::specs::Model::choosing, crate::specs::Model::judge_executed))]
+#[tactic(auto, unfolding(frames::specs::Choosing::choosing, crate::specs::Model::judge_executed))]
 fn judge_executed(
     m: u8,
     reads: Items,
     len: LogNumber,
-    held: bool,
-    e: &Entry,
+    held: Option<&Entry>,
 ) -> Result<Change, Refusal>
-    ensures { shown_verdict result ≡ judge_executed m reads.count reads.items len held e.now }
+    ensures { shown_verdict result ≡ by_held (judge_executed m reads.count reads.items len) (option_copied held.entry) }
 {
-    if !held {
+    let Some(e) = held else {
         return Err(Refusal::NotInLog);
-    }
+    };
     if e.exe {
         return Err(Refusal::TooLate);
     }
@@ -196,8 +196,9 @@ fn judge_executed(
 }
 
 // 1, 2, then the kind's own. e is the entry at the log number that the frame is about; held: that number is in the log. The two are not one
-// Option<Entry>: a Forward is judged by e also where held is false (Write::forwarded), and an Option would ask more of callers.
-#[tactic(auto, unfolding(crate::specs::Model::choosing, crate::specs::Model::judge_of))]
+// Option<Entry>: judge_of judges a Forward by e also where held is false (`forwarded`), so an Option would ask more of callers. n, m and own
+// one by one: C lays them flat in the board's record, and nothing keeps them together.
+#[tactic(auto, unfolding(frames::specs::Choosing::choosing, crate::specs::Model::judge_of, crate::specs::Model::held_of, crate::specs::Model::judge_submit, crate::specs::Model::judge_exec_notif, crate::specs::Model::judge_executed))]
 pub fn judge(
     f: Frame,
     n: u8,
@@ -211,6 +212,7 @@ pub fn judge(
 ) -> Result<Change, Refusal>
     ensures { shown_verdict result ≡ judge_of f.head f.list.count f.list.items n m own floor.now next.now len held e.now }
 {
+    let held = held.then_some(e);
     match f.head {
         Head::Bad => Err(Refusal::BreaksRule),
         Head::Submit {
@@ -218,6 +220,7 @@ pub fn judge(
             number,
             ack,
         } if own == 1 => {
+            // The two kinds share no head, so the write is made in each arm.
             let write = Write {
                 client,
                 number,
@@ -226,7 +229,7 @@ pub fn judge(
             };
             let low = of_client(floor, client, 0);
             let next = of_client(next, client, 0);
-            write.submitted(m, low, next, len, held, e)
+            write.submitted(m, low, next, len, held)
         }
         Head::Forward {
             log_number,
@@ -244,9 +247,9 @@ pub fn judge(
             write.forwarded(m, log_number, next, len, e)
         }
         Head::ExecNotif { shard, .. } if own == n && shard <= m => {
-            judge_exec_notif(m, shard, f.list, len, held, e)
+            judge_exec_notif(m, shard, f.list, len, held)
         }
-        Head::Executed { .. } if own < n => judge_executed(m, f.list, len, held, e),
+        Head::Executed { .. } if own < n => judge_executed(m, f.list, len, held),
         // These are for no board. In one arm with the last, the proof does not see that the tests above it failed.
         Head::ShardAppend { .. } | Head::Response { .. } => Err(Refusal::NotForMe),
         // for another board

@@ -56,6 +56,9 @@ pub smallest_range : (w : Window) → (oldest w.next ≤ smallest_of w) × (smal
 unfolding smallest_of
 smallest_range w = let r = first_range w.slots (oldest w.next) (span w.next) in (r.0, omega (arith, r.1))
 
+pub smallest_below : (w : Window) → smallest_of w ≤ w.next
+smallest_below w = (smallest_range w).1
+
 first_least : (slots : List Slot) (number more k : ℕ) → number ≤ k → k < number + more → T (is_outstanding slots k) → first_from slots number more ≤ k
 unfolding If◌then◌else◌
 first_least slots number zero k l u t = absurd (omega arith)

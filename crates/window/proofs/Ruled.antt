@@ -2,7 +2,7 @@
 -- contract cites.
 -- Assumes nothing.
 use mathlib.Core.Path.{◌≡◌, refl}
-use mathlib.Core.Bool.{Bool, true, false, ◌&&◌}
+use mathlib.Core.Bool.{false}
 use mathlib.Core.List.{List}
 use Prim.Native.Nat.{ℕ, ◌+◌, ◌%◌, ◌≤◌, ◌<◌}
 use native.Mathlib.Omega.{arith}
@@ -10,6 +10,7 @@ use native.Mathlib.Nat.{mod-lt}
 use lib.Dec.{leb, eqb, eqb→eq}
 use lib.ListN.{get_or-replicate}
 use borrow.Author.Tests.{le-leb, lt-leb}
+use Rattle.std.proofs.Math.Bool.{and-false}
 use Rattle.frames.specs.declared.Item.{Item}
 use Rattle.rules.specs.Lists.{If◌then◌else◌}
 use Rattle.rules.specs.Answers.{window_full, numbers_used_up}
@@ -19,10 +20,6 @@ use Rattle.window.specs.declared.Window.{Window}
 use Rattle.window.specs.Model.{free, fresh_window, waits, no_slot, slot_of, is_outstanding, smallest_of, kept_of, storing, answered_of, denied, invoked_of}
 
 -- ---- new
-
-and-false : (b : Bool) → (b && false) ≡ false
-and-false true = refl
-and-false false = refl
 
 -- a number outstanding in a fresh window
 pub fresh_has_none : (number : ℕ) → is_outstanding fresh_window.slots number ≡ false

@@ -6,9 +6,9 @@ use Rattle.board_situations.proofs.play_f.Goals as goal
 pub returns : goal.returns
 returns c =
     rw (c.answer-first.ensures, c.answer-second.ensures)
-    (played_F _ _ _ _ _ _ c.step-a.result c.step-b.result c.step-c.result c.step.result c.step-2.result _ _ _ _ _ c.fresh-board.ensures
-    (rw c.forward.ensures at c.step-a.ensures.value.0) (rw c.forward-2.ensures at c.step-b.ensures.value.0) (rw c.forward-3.ensures at c.step-c.ensures.value.0)
-    (rw c.notif.ensures at c.step.ensures.value.0) (rw c.notif-2.ensures at c.step-2.ensures.value.0)
-    (search rules) (omega (arith, c.step-a.auto.out)) (omega (arith, c.step-a.auto.out, c.step-b.auto.out))
-    (omega (arith, c.step-a.auto.out, c.step-b.auto.out, c.step-c.auto.out))
-    (omega (arith, c.step-a.auto.out, c.step-b.auto.out, c.step-c.auto.out, c.step.auto.out)))
+    (played_F _ _ _ _ _ _ c.step.result c.step-2.result c.step-3.result c.step-4.result c.step-5.result _ _ _ _ _ c.fresh-board.ensures
+    (rw c.forward.ensures at c.step.ensures.value.0) (rw c.forward-2.ensures at c.step-2.ensures.value.0) (rw c.forward-3.ensures at c.step-3.ensures.value.0)
+    (rw c.notif.ensures at c.step-4.ensures.value.0) (rw c.notif-2.ensures at c.step-5.ensures.value.0)
+    (search rules) (omega (arith, c.step.auto.out)) (omega (arith, c.step.auto.out, c.step-2.auto.out))
+    (omega (arith, c.step.auto.out, c.step-2.auto.out, c.step-3.auto.out))
+    (omega (arith, c.step.auto.out, c.step-2.auto.out, c.step-3.auto.out, c.step-4.auto.out)))

@@ -4,11 +4,8 @@ use mathlib.Core.Path.{sym, ◌∙◌}
 use lib.ListN.{take}
 use Rattle.std.proofs.lemmas.List.{at_drop_all}
 use Rattle.entry.specs.Model.{touched_of}
-use Rattle.entry.proofs.Sets.{joined, joined_all}
+use Rattle.entry.proofs.Sets.{joined}
 use Rattle.entry.proofs.touched.Goals as goal
-
-pub loop-operation-init : goal.loop-operation-init
-loop-operation-init c = joined_all c.args.m _
 
 pub returns : goal.returns
 unfolding touched_of

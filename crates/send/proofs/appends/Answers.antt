@@ -1,28 +1,15 @@
 -- `appends` meets its contract: in a turn the frame to the shard is sent or not (turn_sends, turn_skips).
 -- Assumes nothing.
-use mathlib.Core.Path.{◌≡◌, refl}
+use mathlib.Core.Path.{◌≡◌}
 use Prim.Native.Nat.{suc, ◌+◌, ◌-◌}
 use native.Mathlib.Omega.{arith}
 use lib.ListN.{length}
 use borrow.Author.Tests.{le-leb, lt-leb}
 use borrow.Author.Rules.{rules}
-use Rattle.send.specs.Model.{appends_to, bytes_of, laid, goes, append_at, append_frame}
-use Rattle.send.proofs.Room.{appends_few}
+use Rattle.send.specs.Model.{goes, append_at, append_frame}
 use Rattle.send.proofs.Lay.{turn_sends, turn_skips}
 use Rattle.send.proofs.appends.Goals as goal
 use Rattle.send.proofs.appends.Goals.{then-in_mask+then-list-ge1, else-in_mask, else-in_mask-via-then-in_mask+else-list-ge1, else-in_mask-via-else-in_mask}
-
-pub loop-shard-init : goal.loop-shard-init
-unfolding appends_to bytes_of laid
-loop-shard-init c =
-    let h = c.default-sent.ensures in
-    record { room = search rules; sends = record { frames = h.0; bytes = h.1; out = refl } }
-
-pub overflow_add-sent : goal.overflow_add-sent
-overflow_add-sent c =
-    let l = c.loop-shard in
-    let o = c.list-operations.result in
-    record { fits = omega (arith, appends_few c.args.e.now.remaining o.count o.items c.args.m c.args.log_number c.args.masks.now (l.shard - 1), l.invariant.sends.frames) }
 
 pub loop-shard-preserved : goal.loop-shard-preserved
 unfolding goes append_at append_frame

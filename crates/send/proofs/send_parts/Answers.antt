@@ -2,27 +2,16 @@
 -- Assumes nothing.
 use mathlib.Core.Path.{◌≡◌, ◌∙◌, refl}
 use lib.ListN.{length}
-use Rattle.send.specs.Model.{bytes_of, laid}
 use Rattle.send.proofs.Room.{forward_fits, backward_fits, Fits}
-use Rattle.send.proofs.Lay.{wrote_bytes, wrote_laid, parts_none, parts_back, parts_on, parts_tail}
+use Rattle.send.proofs.Lay.{wrote_bytes, wrote_laid, parts_back, parts_on}
 use borrow.Author.Rules.{rules}
 use Rattle.send.proofs.send_parts.Goals as goal
 use Rattle.send.proofs.send_parts.Goals.{then-e, else-e+then-own-n}
 
-pub returns-then-out-lt68 : goal.returns-then-out-lt68
-unfolding laid bytes_of
-returns-then-out-lt68 c =
-    let a = c.args in
-    rw (parts_none a.e.now a.n a.m a.own a.floor a.log_number a.masks.now (length a.out.now) c.if-out-lt68.true)
-    (record { frames = c.default.ensures.0; bytes = c.default.ensures.1; out = refl })
-
-pub returns-else-own-n : goal.returns-else-own-n
-returns-else-own-n c = let a = c.args in rw (parts_tail a.e.now a.n a.m a.own a.floor a.log_number a.masks.now (length a.out.now) c.if-out-lt68.false c.if-e.false c.if-own-n.false) c.appends.ensures
-
 pub returns : goal.returns
 returns c =
     let a = c.args in
-    let room = c.if-out-lt68.false in
+    let room = c.if-out-lt-LEAST_OUT.false in
     elim c.if-e.branch [
       | then-e w ↦
           let slots : length w.backward-frame.result.list.items ≡ 4 = search rules in

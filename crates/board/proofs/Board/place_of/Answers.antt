@@ -6,7 +6,7 @@ use Rattle.board.specs.Model.{place_of}
 use Rattle.board.proofs.Laws.{position_found}
 use Rattle.board.proofs.Board.place_of.Goals as goal
 
-pub returns-then-number-of_client : goal.returns-then-number-of_client
+pub returns-then-from-of_client : goal.returns-then-from-of_client
 unfolding place_of If◌then◌else◌
-returns-then-number-of_client c =
-    simp (c.in-Submit.is, ← c.of_client.ensures, lt-ltb _ _ c.if-number-of_client.true, c.unwrap_or.ensures, c.min.ensures, c.find.ensures) (position_found _ _ _ (search rules))
+returns-then-from-of_client c =
+    simp (c.in-Submit.is, ← c.of_client.ensures, lt-ltb _ _ (rw c.from.ensures at c.if-from-of_client.true), c.unwrap_or.ensures, c.from-then-from-of_client.ensures, c.min.ensures, c.find.ensures) (position_found _ _ _ (search rules))

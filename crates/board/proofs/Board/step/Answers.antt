@@ -1,39 +1,26 @@
 -- `board::Board::step` meets its contract: one law for each of its three ways out. Assumes nothing.
-use mathlib.Core.Path.{◌≡◌, ◌∙◌}
-use mathlib.Core.Bool.{Bool, true, false}
-use Prim.Native.Nat.{ℕ, ◌≤◌}
-use borrow.Author.Tests.{lt-ltb, le-ltb}
+use mathlib.Core.Path.{sym, ◌∙◌}
 use Rattle.std.proofs.lemmas.List.{set-set, set-get_or}
 use Rattle.std.proofs.lemmas.Result.{err_from_is_err_and}
-use Rattle.rules.specs.Outcomes.{unusable}
 use Rattle.board.specs.Model.{blank}
 use Rattle.board.proofs.Laws.{queues_changed}
 use Rattle.board.proofs.Ways.{not_usable_lem, refused_by, taken_by}
 use Rattle.board.proofs.Board.step.Goals as goal
-use Rattle.board.proofs.Board.step.Goals.{then-not-self-via-then-not-self, then-not-self-via-else-not-self+then-out-lt68}
 
-usable : (started : Bool) (room : ℕ) → started ≡ true → 68 ≤ room → unusable started room ≡ false
-usable started room t h = rw (t, le-ltb room 68 h)
-
-pub returns-then-not-self-clause-value : goal.returns-then-not-self-clause-value
-returns-then-not-self-clause-value c =
-    not_usable_lem c.args.self.now c.args.frame.now c.args.out.now
-    (elim c.then-not-self.branch [
-      | then-not-self-via-then-not-self w ↦ rw w.if-not-self.true
-      | then-not-self-via-else-not-self+then-out-lt68 w ↦ rw (w.if-not-self.false, lt-ltb _ _ w.if-out-lt68.true)
-    ])
+pub returns-then-unusable-clause-value : goal.returns-then-unusable-clause-value
+returns-then-unusable-clause-value c = not_usable_lem c.args.self.now c.args.frame.now c.args.out.now (sym c.unusable.ensures ∙ c.if-unusable.true)
 
 pub returns-in_err-change-clause-value : goal.returns-in_err-change-clause-value
 returns-in_err-change-clause-value c =
     let b = c.args.self.now in
     let p = err_from_is_err_and c.from_residual.result c.from_residual.ensures.1 in
     rw (p.1, p.2, set-get_or b.log c.slot_of-slot.result blank)
-    (refused_by b c.args.frame.now c.args.out.now (usable b.started _ c.if-not-self.false c.if-out-lt68.false) _ c.read_frame-f.ensures.value _ c.place_of-log_number.ensures
+    (refused_by b c.args.frame.now c.args.out.now (sym c.unusable.ensures ∙ c.if-unusable.false) _ c.read_frame-f.ensures.value _ c.place_of-log_number.ensures
     _ c.slot_of-slot.ensures.0 c.in_err-change.field-0.0 c.in_err-change.ensures)
 
 pub returns-clause-value : goal.returns-clause-value
 returns-clause-value c =
     let b = c.args.self.now in
-    taken_by b c.args.frame.now c.args.out.now (usable b.started _ c.if-not-self.false c.if-out-lt68.false) _ c.read_frame-f.ensures.value _ c.place_of-log_number.ensures
+    taken_by b c.args.frame.now c.args.out.now (sym c.unusable.ensures ∙ c.if-unusable.false) _ c.read_frame-f.ensures.value _ c.place_of-log_number.ensures
     _ c.slot_of-slot.ensures.0 c.in_ok-change.change c.in_ok-change.ensures _ (set-set _ _ _ _) _ c.name_of.ensures _ (rw c.list.ensures at c.touched.ensures) _ c.follow.ensures
     _ c.raise.ensures _ (c.change_all.ensures ∙ queues_changed _ _ _ _) _ _ c.sent.ensures

@@ -1,24 +1,15 @@
 -- `take_up_to` meets its contract: what its callees give, and what the moved slots then hold, is put together as the definition says.
 -- Assumes nothing.
-use Rattle.std.proofs.Common.{rules, arith, ap, sym, ◌∙◌, ◌≡◌, ℕ, ◌-◌, length, replicate}
-use borrow.Author.Tests.{le-leb, lt-leb}
+use Rattle.std.proofs.Common.{rules, arith, ap, sym, ◌∙◌, ◌≡◌, ℕ, ◌-◌, ◌≤◌, length, replicate}
+use borrow.Author.Tests.{le-leb}
 use Rattle.queue.specs.declared.Queue.{Queue}
-use mathlib.Core.Bool.{and-false}
 use Rattle.rules.specs.Lists.{If◌then◌else◌}
 use Rattle.queue.specs.Model.{left_of, last_of, taken_of, without}
 use Rattle.queue.proofs.Loops.{last_some, left_moved}
 use borrow.Rule.Slice.PartMut.{put_mid, mid_of, mid_len}
 use Rattle.std.specs.List.{copy_within}
 use Rattle.queue.proofs.Queue.take_up_to.Goals as goal
-use Rattle.queue.proofs.Queue.take_up_to.Goals.{then-self-gt256-via-then-self-gt256, then-self-gt256-via-else-self-gt256+then-log_number-self}
 use Rattle.queue.proofs.Queue.take_up_to.Goals.{then-count-gt0, else-count-gt0}
-
-pub returns-then-self-gt256 : goal.returns-then-self-gt256
-unfolding taken_of If◌then◌else◌
-returns-then-self-gt256 c = elim c.then-self-gt256.branch [
-  | then-self-gt256-via-then-self-gt256 w ↦ rw (lt-leb _ 256 w.if-self-gt256.true)
-  | then-self-gt256-via-else-self-gt256+then-log_number-self w ↦ rw (lt-leb _ _ w.if-log_number-self.true, and-false)
-]
 
 pub returns : goal.returns
 unfolding taken_of without left_of last_of If◌then◌else◌
@@ -47,5 +38,6 @@ returns c =
     let there : c.copy_within.new.self ≡ copy_within q.numbers count q.len 0 = c.copy_within.ensures.after ∙ (λ i. copy_within (numbers i) count (len i) 0) in
     let moved : put_mid (s.len - count) (256 - (s.len - count)) c.copy_within.new.self c.fill.new.self ≡ left_of q count
     = rw left (left_moved q.len count q.numbers c.copy_within.new.self c.fill.new.self full c.if-self-gt256.false c.up_to-count.ensures.few long there zeros) in
-    let whole : taken_of q c.args.log_number ≡ without q count = rw (le-leb _ 256 c.if-self-gt256.false, le-leb _ _ c.if-log_number-self.false, ← c.up_to-count.ensures.value) in
+    let low : q.taken ≤ c.args.log_number = omega (arith, c.from.ensures, c.if-from-self.false) in
+    let whole : taken_of q c.args.log_number ≡ without q count = rw (le-leb _ 256 c.if-self-gt256.false, le-leb _ _ low, ← c.up_to-count.ensures.value) in
     (λ i. record { numbers = moved i; len = left i; taken = taken i }) ∙ sym whole

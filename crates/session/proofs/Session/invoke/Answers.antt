@@ -1,8 +1,9 @@
 -- One law for each way out (Ways), and what it means (invoke_promised).
 -- Assumes nothing.
-use mathlib.Core.Path.{◌≡◌, sym, ◌∙◌}
+use mathlib.Core.Path.{◌≡◌, refl, sym, ◌∙◌}
 use native.Mathlib.Omega.{arith}
 use lib.ListN.{length}
+use Rattle.std.proofs.Common.{rules}
 use Rattle.std.proofs.lemmas.Result.{err_from_is_err_and}
 use Rattle.refusal.specs.declared.Refusal.TheVariants.{NotUsable, BreaksRule}
 use Rattle.session.specs.Model.{refusal, with_window, invoking, invoked_of, invoke_out}
@@ -11,42 +12,41 @@ use Rattle.session.proofs.Ways.{call_refused, call_sent, invoke_unusable, invoke
 use Rattle.session.proofs.Session.invoke.Goals as goal
 use Rattle.session.proofs.Session.invoke.Goals.{then-list-eq0-via-then-list-eq0, then-list-eq0-via-else-list-eq0+then-not-items_ok}
 
-pub returns-then-is_unusable-clause-value : goal.returns-then-is_unusable-clause-value
+pub returns-then-unusable : goal.returns-then-unusable
 unfolding invoked_of invoke_out
-returns-then-is_unusable-clause-value c = call_refused c.args.self.now c.args.out.now _ NotUsable (invoke_unusable c.args.self.now c.args.operations _ (sym c.is_unusable.ensures ∙ c.if-is_unusable.true))
+returns-then-unusable c =
+    let a = c.args in
+    let p = invoke_promised a.self.now a.operations a.out.now c.list-list.ensures.sized _ _
+    (call_refused a.self.now a.out.now _ NotUsable (invoke_unusable a.self.now a.operations _ (sym c.unusable.ensures ∙ c.if-unusable.true))) in
+    record { value = p.0; invoke_means = p.1; refusal = search rules }
 
-pub returns-then-is_unusable-clause-invoke_means : goal.returns-then-is_unusable-clause-invoke_means
-returns-then-is_unusable-clause-invoke_means c = (invoke_promised c.args.self.now c.args.operations c.args.out.now c.list-list.ensures.sized _ _ (returns-then-is_unusable-clause-value c)).1
-
-pub returns-then-list-eq0-clause-value : goal.returns-then-list-eq0-clause-value
+pub returns-then-list-eq0 : goal.returns-then-list-eq0
 unfolding invoked_of invoke_out
-returns-then-list-eq0-clause-value c =
-    let u = sym c.is_unusable.ensures ∙ c.if-is_unusable.false in
-    let wrong : invoking c.args.self.now c.args.operations (length c.args.out.now) ≡ refusal c.args.self.now 1 =
+returns-then-list-eq0 c =
+    let a = c.args in
+    let u = sym c.unusable.ensures ∙ c.if-unusable.false in
+    let wrong : invoking a.self.now a.operations (length a.out.now) ≡ refusal a.self.now 1 =
     elim c.then-list-eq0.branch [
-      | then-list-eq0-via-then-list-eq0 w ↦ invoke_none c.args.self.now c.args.operations _ u c.list-list.result c.list-list.ensures.value (omega (arith, w.if-list-eq0.true))
-      | then-list-eq0-via-else-list-eq0+then-not-items_ok w ↦ invoke_wrong c.args.self.now c.args.operations _ u c.list-list.result c.list-list.ensures.value (omega (arith, w.if-list-eq0.false)) (sym w.items_ok.ensures ∙ w.if-not-items_ok.true)
+      | then-list-eq0-via-then-list-eq0 w ↦ invoke_none a.self.now a.operations _ u c.list-list.result c.list-list.ensures.value (omega (arith, w.if-list-eq0.true))
+      | then-list-eq0-via-else-list-eq0+then-not-items_ok w ↦ invoke_wrong a.self.now a.operations _ u c.list-list.result c.list-list.ensures.value (omega (arith, w.if-list-eq0.false)) (sym w.items_ok.ensures ∙ w.if-not-items_ok.true)
     ] in
-    call_refused c.args.self.now c.args.out.now _ BreaksRule wrong
+    let p = invoke_promised a.self.now a.operations a.out.now c.list-list.ensures.sized _ _ (call_refused a.self.now a.out.now _ BreaksRule wrong) in
+    record { value = p.0; invoke_means = p.1; refusal = search rules }
 
-pub returns-then-list-eq0-clause-invoke_means : goal.returns-then-list-eq0-clause-invoke_means
-returns-then-list-eq0-clause-invoke_means c = (invoke_promised c.args.self.now c.args.operations c.args.out.now c.list-list.ensures.sized _ _ (returns-then-list-eq0-clause-value c)).1
-
-pub returns-in_err-number-clause-value : goal.returns-in_err-number-clause-value
+pub returns-in_err-number : goal.returns-in_err-number
 unfolding invoked_of invoke_out
-returns-in_err-number-clause-value c =
-    let p = err_from_is_err_and c.from_residual.result c.from_residual.ensures.1 in
-    let full = invoke_full c.args.self.now c.args.operations _ (sym c.is_unusable.ensures ∙ c.if-is_unusable.false) c.list-list.result c.list-list.ensures.value (omega (arith, c.if-list-eq0.false)) (sym c.items_ok.ensures ∙ c.if-not-items_ok.false) c.invoke.new.self c.in_err-number.field-0.0 c.in_err-number.ensures.value in
-    rw (p.1, p.2, c.in_err-number.ensures.refusal) (call_refused c.args.self.now c.args.out.now _ c.in_err-number.field-0.0 full)
+returns-in_err-number c =
+    let a = c.args in
+    let e = err_from_is_err_and c.from_residual.result c.from_residual.ensures.1 in
+    let full = invoke_full a.self.now a.operations _ (sym c.unusable.ensures ∙ c.if-unusable.false) c.list-list.result c.list-list.ensures.value (omega (arith, c.if-list-eq0.false)) (sym c.items_ok.ensures ∙ c.if-not-items_ok.false) c.invoke.new.self c.in_err-number.field-0.0 c.in_err-number.ensures.value in
+    let p = invoke_promised a.self.now a.operations a.out.now c.list-list.ensures.sized _ _ (call_refused a.self.now a.out.now _ c.in_err-number.field-0.0 full) in
+    rw (e.1, e.2, c.in_err-number.ensures.refusal) (record { value = p.0; invoke_means = p.1; refusal = (refl, refl) })
 
-pub returns-in_err-number-clause-invoke_means : goal.returns-in_err-number-clause-invoke_means
-returns-in_err-number-clause-invoke_means c = (invoke_promised c.args.self.now c.args.operations c.args.out.now c.list-list.ensures.sized _ _ (returns-in_err-number-clause-value c)).1
-
-pub returns-clause-value : goal.returns-clause-value
+pub returns : goal.returns
 unfolding invoked_of invoke_out
-returns-clause-value c =
-    let goes = invoke_goes c.args.self.now c.args.operations _ (sym c.is_unusable.ensures ∙ c.if-is_unusable.false) c.list-list.result c.list-list.ensures.value (omega (arith, c.if-list-eq0.false)) (sym c.items_ok.ensures ∙ c.if-not-items_ok.false) c.invoke.new.self c.in_ok-number.number c.in_ok-number.ensures.value in
-    call_sent (with_window c.invoke.new.self c.args.self.now) c.args.out.now _ c.in_ok-number.number _ _ c.submit.result _ goes c.submit.ensures
-
-pub returns-clause-invoke_means : goal.returns-clause-invoke_means
-returns-clause-invoke_means c = (invoke_promised c.args.self.now c.args.operations c.args.out.now c.list-list.ensures.sized _ _ (returns-clause-value c)).1
+returns c =
+    let a = c.args in
+    let goes = invoke_goes a.self.now a.operations _ (sym c.unusable.ensures ∙ c.if-unusable.false) c.list-list.result c.list-list.ensures.value (omega (arith, c.if-list-eq0.false)) (sym c.items_ok.ensures ∙ c.if-not-items_ok.false) c.invoke.new.self c.in_ok-number.number c.in_ok-number.ensures.value in
+    let p = invoke_promised a.self.now a.operations a.out.now c.list-list.ensures.sized _ _
+    (call_sent (with_window c.invoke.new.self a.self.now) a.out.now _ c.in_ok-number.number _ _ c.submit.result _ goes c.submit.ensures) in
+    record { value = p.0; invoke_means = p.1; refusal = search rules }

@@ -31,7 +31,7 @@ loop-x-init c =
     }
 
 pub loop-x-preserved : goal.loop-x-preserved
-loop-x-preserved c = along_on _ _ _ _ _ _ _ c.loop-x.invariant _ _ c.loop-x-test.true c.note.ensures c.cell_after.ensures
+loop-x-preserved c = along_on _ _ _ _ _ _ _ c.loop-x.invariant _ _ _ c.loop-x-test.true c.from-key.ensures c.note.ensures c.cell_after.ensures
 
 pub returns : goal.returns
 returns c =

@@ -1,18 +1,21 @@
--- The first outstanding number of those passed so far is what is looked for: the search goes on where a number is not outstanding.
+-- What is found is the first outstanding number of those that the window reaches back to, or there is none.
 -- Assumes nothing.
-use mathlib.Core.Path.{refl, ap, sym, ◌∙◌}
+use mathlib.Core.Path.{◌≡◌, ap, ◌∙◌}
 use Prim.Native.Nat.{ℕ, ◌-◌}
-use Rattle.window.proofs.Search.{first_here, first_past}
-use Rattle.window.specs.Model.{first_from, smallest_of}
-use borrow.Author.Rules.{rules}
+use mathlib.Core.Bool.{true, false}
+use native.Mathlib.Omega.{arith}
+use Rattle.std.proofs.Common.{rules, tests}
+use Rattle.std.proofs.lemmas.Iterator.{first_from_Range}
+use Rattle.window.specs.Model.{is_outstanding, first_from, smallest_of}
+use Rattle.window.proofs.Search.{first_found}
 use Rattle.window.proofs.Window.smallest_outstanding.Goals as goal
 
-pub loop-number-init : goal.loop-number-init
+pub returns : goal.returns
 unfolding smallest_of
-loop-number-init c = (refl, ap (λ (k : ℕ). first_from c.args.self.now.slots k (c.args.self.now.next - k)) c.saturating_sub-number.ensures)
-
-pub loop-number-preserved : goal.loop-number-preserved
-loop-number-preserved c = (refl, sym (first_past c.args.self.now.slots _ c.args.self.now.next (search rules) (sym c.is_outstanding.ensures ∙ c.if-is_outstanding.false)) ∙ c.loop-number.invariant.1)
-
-pub returns-then-is_outstanding : goal.returns-then-is_outstanding
-returns-then-is_outstanding c = sym (first_here c.args.self.now.slots _ c.args.self.now.next (search rules) (sym c.is_outstanding.ensures ∙ c.if-is_outstanding.true)) ∙ c.loop-number.invariant.1
+returns c =
+    let slots = c.args.self.now.slots in
+    let found = first_from_Range _ _ _ _ (λ i. is_outstanding slots i ≡ true) (λ i. is_outstanding slots i ≡ false) c.find.ensures.ran
+    (λ x q k. grind (arith, tests))
+    (λ x q k. (search rules, grind (arith, tests))) in
+    c.unwrap_or.ensures ∙ first_found slots c.args.self.now.next c.saturating_sub.result c.find.result (omega (arith, c.saturating_sub.ensures)) found
+    ∙ ap (λ (k : ℕ). first_from slots k (c.args.self.now.next - k)) c.saturating_sub.ensures
