@@ -193,7 +193,7 @@ now=besides; echo 0 >"$work/total"
 code '(^|[ {(])([a-z_0-9]+): \2( *[,}]|$)' | counted 'fields `name: name`'
 code '(^|[ {(])[a-z_0-9]+: _[ ,}]' | counted 'fields `name: _` in a pattern'
 code '\) [&|] [(!a-z]|[a-z0-9] [&|] \(|^ *[&|] [(!a-z]|[^&]& [a-z_]+\(' | grep -v '&&\|||' | counted 'lines that join tests by `&` or `|`'
-fns '$4 ~ /[(, ](b|s|r|self|mut self|mut s|queues|boards|e|window): ?(Board|Shard|Session|Register|Window|Queue|Entry|\[Queue; 8\])|[(](mut )?self[,)]/' | counted 'functions that take a large record by value'
+fns '$4 ~ /[(, ](b|s|r|self|mut self|mut s|queues|boards|e|window): ?(Board|Shard|Session|Register|Window|Queue|Entry|\[Queue; 8\])|[(](mut )?self[,)]/' | counted 'functions that take a record by value'
 close
 printf '\nFunctions in crates/*/src: %s. Lines: %s.\n' "$(wc -l <"$work/fns")" "$(find crates -path '*/out' -prune -o -path '*/src/*' -name '*.rt' -print0 | xargs -0 cat | wc -l)"
 cat "$work/said"

@@ -40,9 +40,8 @@ pub struct Board {
     pub started: bool,
 }
 
-// "Boards n: 2..8 .. Shard groups m: 1..8"; the own number is 1..n. One by one, here and in `start`, as C hands them in
-// (register_c::board_start). Beside the tests in records and shard: no crate with
-// code lies under the three.
+// "Boards n: 2..8 .. Shard groups m: 1..8"; the own number is 1..n. One by one, here and in `start`, as C hands them in (register_c::board_start).
+// Beside the tests in records and shard: no crate with code lies under the three.
 #[tactic(auto, unfolding(crate::specs::Model::in_range))]
 fn in_range(n: u8, m: u8, own: u8) -> bool
     ensures { result ≡ in_range n m own }
