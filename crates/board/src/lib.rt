@@ -150,16 +150,21 @@ impl Board {
 
     // ---- The log, by log number and by client
 
-    // The log number under which a client's number is held, if it is. queue's `before` is the same chain over its numbers: a function for both would be
-    // no shorter than the chain.
+    // The names of the log's entries, and all where len is more than there are.
+    fn held_names(&self) -> &[u32]
+        ensures { result.now ≡ take self.now.len self.now.names }
+    {
+        let end = usize::from(self.len).min(self.names.len());
+        &self.names[..end]
+    }
+
+    // The log number under which a client's number is held, if it is. Over a slice, so that a turn counts one thing: with `take(len)` it counts two.
+    // queue's `before` is the same chain over its numbers: a function for both would be no shorter than the chain.
     fn find(&self, client: u8, number: u16) -> Option<usize>
         ensures { result ≡ position (λ x. x == name_of client number) (take self.now.len self.now.names) }
     {
         let name = name_of(client, number);
-        self.names
-            .iter()
-            .take(usize::from(self.len))
-            .position(|x| *x == name)
+        self.held_names().iter().position(|x| *x == name)
     }
 
     // The log number that a frame is about: the one that it names; of a Submit the one under which its number is held, or is to be.
@@ -234,7 +239,11 @@ impl Board {
             held,
             &self.log[slot],
         );
-        let change = judged?;
+        // By a match and no `?`, so that what a refusal answers stands here as a value: the edit always_done changes it.
+        let change = match judged {
+            Ok(change) => change,
+            Err(refusal) => return Err(refusal),
+        };
         let e = change.entry;
         self.log[slot] = e;
         self.len = change.len;

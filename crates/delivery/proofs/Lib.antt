@@ -3,3 +3,4 @@ pub mod Runs
 pub mod Turns
 pub mod Logs
 pub mod Ruled
+pub mod Eight

@@ -4,6 +4,9 @@ use mathlib.Core.List.{List, ◌∷◌, ◌++◌, append_assoc, append-nil}
 use mathlib.Core.Path.{◌≡◌, refl, ap, sym, ◌∙◌}
 use Prim.Native.Nat.{ℕ, ◌+◌, ◌*◌, ◌≤◌, ◌<◌}
 use native.Mathlib.Omega.{arith}
+use mir.Val.{Val}
+use denote.Laws.{Is}
+use denote.Struct.Laws as LL
 use lib.ListN.{length, take, drop, get_or, drop_of_length-le}
 use lib.Seq.{length-take-le, drop-cons}
 use native.Mathlib.Numerals.{add-one}
@@ -13,9 +16,15 @@ use Rattle.lines.specs.Text.{l_line}
 use Rattle.lines.proofs.Short.{l_short}
 use Rattle.entry.specs.declared.Entry.{Entry}
 use Rattle.board.specs.declared.Board.{Board}
+use Rattle.board.specs.contracts.Board as T
+use Rattle.board.proofs.Board.TheLaws as T'
 use Rattle.delivery.specs.Delivery.{standing}
 use Rattle.delivery.specs.Logs.{log_text, log_lines}
 use Rattle.delivery.proofs.Area.{Grown, lined, grows, more_text, stands}
+
+-- a board's log has 256 places
+pub places : (b : Board) (vs : List Val) → Is T.the_row b vs → length b.log ≡ 256
+places b vs is = (LL.owed T.the_type T'.the_laws b vs is).0.1.0.1
 
 -- what the loop keeps: the lines of the entries that were passed stand, and those of the others are ahead
 pub record Logged (board : ℕ) (es : List Entry) (l₀ : List ℕ) (k : ℕ) (l : List ℕ) (written : ℕ) : Type 0 where

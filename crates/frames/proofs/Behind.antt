@@ -3,14 +3,14 @@
 use mathlib.Core.Path.{◌≡◌, refl, sym, ap, ◌∙◌}
 use mathlib.Core.Bool.{◌&&◌}
 use mathlib.Core.List.{List, [], ◌++◌, append_assoc, append-nil}
-use Prim.Native.Nat.{ℕ, ◌+◌, ◌-◌, ◌≤◌}
+use Prim.Native.Nat.{ℕ, ◌+◌, ◌-◌, ◌<◌, ◌≤◌}
 use native.Mathlib.Nat.{le_of_eq}
 use native.Mathlib.Omega.{arith}
 use lib.ListN.{length, take, drop, length-append, length-drop, drop_of_length-le}
 use lib.Seq.{take_at, drop_at, drop-drop}
 use lib.Dec.{leb, leb→le}
 use Rattle.rules.specs.Lists.{If◌then◌else◌}
-use borrow.Author.Tests.{le-leb}
+use borrow.Author.Tests.{le-leb, lt-leb}
 use Rattle.rules.proofs.Lists.{by, and_r}
 use Rattle.frames.specs.declared.Frame.{Frame}
 use Rattle.frames.specs.Frames.{frame_bytes, fits, written_of, laid_of, end_of, laid_behind}
@@ -18,6 +18,17 @@ use Rattle.frames.proofs.Cases.{part}
 use Rattle.frames.proofs.Puts.{writes, lays}
 
 -- ---- What the code leaves
+
+-- an area that ends before `at` stays as it is
+pub refused : (f : Frame) (at : ℕ) (l : List ℕ) → length l < at → (at ≡ end_of f at (length l)) × (l ≡ laid_behind f at l)
+unfolding end_of laid_behind If◌then◌else◌
+refused f at l h = (simp (lt-leb at (length l) h), simp (lt-leb at (length l) h))
+
+-- n is what was written from `at` on
+pub ended : (f : Frame) (at n : ℕ) (l : List ℕ) → at ≤ length l → n ≡ written_of f (length (take (length l - at) (drop at l)))
+    → at + n ≡ end_of f at (length l)
+unfolding end_of If◌then◌else◌
+ended f at n l h en = simp (le-leb at (length l) h, en, part l at, length-drop)
 
 -- m is what the part from `at` on became
 pub laid : (f : Frame) (at : ℕ) (l m : List ℕ) → at ≤ length l → m ≡ laid_of f (take (length l - at) (drop at l))

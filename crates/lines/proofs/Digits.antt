@@ -3,12 +3,13 @@
 -- Assumes nothing.
 use mathlib.Core.Path.{◌≡◌, refl, ap, sym, ◌∙◌}
 use mathlib.Core.Bool.{Bool, true, false, cond}
-use mathlib.Core.List.{List, [], ◌∷◌, ◌++◌}
+use mathlib.Core.List.{List, [], ◌∷◌, ◌++◌, append_assoc}
 use Prim.Native.Nat.{ℕ, zero, suc, ◌+◌, ◌/◌, ◌%◌, ◌^◌, ◌<◌, ◌≤◌}
 use native.Mathlib.Omega.{arith}
 use native.Mathlib.Nat.{pow-suc}
 use lib.Dec.{ltb}
 use lib.ListN.{length, length-append}
+use Rattle.std.proofs.lemmas.List.{take-append-drop}
 use borrow.Author.Tests.{lt-ltb, le-ltb, ltb-true, ltb-false}
 use Rattle.std.specs.Fmt.{decimal}
 use Rattle.std.proofs.lemmas.Fmt.{decimal_by_steps}
@@ -62,5 +63,6 @@ decimal_is x h = decimal_by_steps (λ n ds. n < 2 ^ 64 → ds ≡ decimal_of n) 
 -- how long a line is so far
 pub ruleset lengths = (decimal_few, length-append)
 
--- what `decimal` is proved by
-pub ruleset decimal_laws = (decimal_is, length-append)
+-- what `decimal` is proved by. The last two are of a number that is written in two parts, the first before the second: so the edit last_digit_first
+-- is refused for their order alone.
+pub ruleset decimal_laws = (decimal_is, length-append, append_assoc, take-append-drop)

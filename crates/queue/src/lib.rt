@@ -54,9 +54,8 @@ impl Queue {
         requires { self.now.len ≤ 256 }
         ensures { result ≡ position (λ x. x == log_number) (waiting self.now) }
     {
-        self.numbers
+        self.numbers[..self.len]
             .iter()
-            .take(self.len)
             .position(|x| *x == log_number)
     }
 

@@ -1,2 +1,3 @@
 pub mod InMemory
 pub mod Fresh
+pub mod Tells

@@ -10,6 +10,7 @@
 #![tactic(auto)]
 
 ghost use Rattle.std.specs.Prelude.{◌≡◌, length};
+ghost use Rattle.std.specs.Fn.{FnOnceReturnsAtMut};
 ghost use Rattle.session.specs.Model.{started_of, invoked_of, invoke_out, retried_of, retry_out, responded_of};
 ghost use Rattle.session.specs.View as SessionView;
 ghost use Rattle.board.specs.Model as Boards;
@@ -53,10 +54,17 @@ impl From<Result<send::Sent, Refusal>> for Stepped {
     }
 }
 
-// What a lent record comes to where it goes to a callee by value, whatever that is: what the callee leaves of it is stored back, and what stood beside
-// it is the answer. So what the callee ensures of the two holds of the lent record and the answer. The functions below need no such copy: what they
-// call changes the lent record in place.
-// Nothing calls it: docs/PROMISES.md names its contract, which says this of any callee.
+// What each function below does, whatever its callee is: the record is lent on, and what comes back is shown. So what the callee ensures of the record
+// that it leaves, and of what comes back, holds of the lent record. `thin` says the same of a callee that is handed the record by value: what it leaves is
+// stored back, and what stood beside it is the answer.
+// Nothing calls the two: docs/PROMISES.md names their contracts, which say this of any callee.
+fn lends<T, R, F: FnOnce(&mut T) -> R>(lent: &mut T, callee: F) -> R
+    requires { F.IsAlwaysCallable callee }
+    ensures { FnOnceReturnsAtMut F.FnOnce callee lent.old result lent.new }
+{
+    callee(lent)
+}
+
 fn thin<T: Copy, A, F: FnOnce(T) -> (T, A)>(lent: &mut T, callee: F) -> A
     requires { F.pre callee lent.old }
     ensures { F.post callee lent.old (lent.new, result) }

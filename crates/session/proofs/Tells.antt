@@ -20,7 +20,7 @@ started_told s t q r e = (ap (λ (x : Started). x.session) e, same q r (ap (λ (
     same (Err q) (Ok y) e = absurd (number_not_done q e)
     same (Err q) (Err r) e = ap (λ (k : Refusal). Err k) (number_tells q r e)
 
-sent_told : (q r : Result Submission Refusal) → sent_shown q ≡ sent_shown r → q ≡ r
+pub sent_told : (q r : Result Submission Refusal) → sent_shown q ≡ sent_shown r → q ≡ r
 sent_told (Ok x) (Ok y) e = λ i. Ok (record { number = (e i).number; bytes = (e i).bytes })
 sent_told (Ok x) (Err r) e = absurd (number_not_done r (sym (ap (λ (z : Sent). z.answer) e)))
 sent_told (Err q) (Ok y) e = absurd (number_not_done q (ap (λ (z : Sent). z.answer) e))
@@ -29,7 +29,7 @@ sent_told (Err q) (Err r) e = ap (λ (k : Refusal). Err k) (number_tells q r (ap
 pub submitted_told : (s t : Session) (q r : Result Submission Refusal) → submitted_shown s q ≡ submitted_shown t r → (s ≡ t) × (q ≡ r)
 submitted_told s t q r e = (ap (λ (x : Submitted). x.session) e, sent_told q r (ap (λ (x : Submitted). x.sent) e))
 
-reply_told : (q r : Result Answer Refusal) → reply_shown q ≡ reply_shown r → q ≡ r
+pub reply_told : (q r : Result Answer Refusal) → reply_shown q ≡ reply_shown r → q ≡ r
 reply_told (Ok x) (Ok y) e = λ i. Ok (record { number = (e i).number; reads = record { count = (e i).count; items = (e i).reads } })
 reply_told (Ok x) (Err r) e = absurd (number_not_done r (sym (ap (λ (z : Reply). z.answer) e)))
 reply_told (Err q) (Ok y) e = absurd (number_not_done q (ap (λ (z : Reply). z.answer) e))

@@ -234,6 +234,15 @@ step_tells s t (Ok x) (Err f) e = absurd (number_not_done f (ap (λ (r : Stepped
 step_tells s t (Err f) (Ok y) e = absurd (number_not_done f (ap (λ (r : Stepped). r.answer) e))
 step_tells s t (Err f) (Err g) e = (λ i. (e i).shard, λ i. Err (number_tells f g (ap (λ (r : Stepped). r.answer) e) i))
 
+-- so the contracts of start and of step, in their own words, admit one outcome
+pub start_once : (m own : ℕ) (s t : Shard) (r u : Result (Unit {0}) Refusal) → shown_start s r ≡ start_of m own → shown_start t u ≡ start_of m own → (s ≡ t) × (r ≡ u)
+start_once m own s t r u e d = start_tells s t r u (e ∙ sym d)
+
+pub step_once : (s : Shard) (bytes out : List ℕ) (a b : Shard) (r u : Result ℕ Refusal) (left rest : List ℕ)
+    → (shown a r ≡ step_of s bytes (length out)) × (left ≡ out_of s bytes out) → (shown b u ≡ step_of s bytes (length out)) × (rest ≡ out_of s bytes out)
+    → (a ≡ b) × (r ≡ u) × (left ≡ rest)
+step_once s bytes out a b r u left rest e d = let told = step_tells a b r u (e.0 ∙ sym d.0) in (told.0, told.1, e.1 ∙ sym d.1)
+
 -- ---- A group is determined by what it means
 
 cell_one : (c d : Cell) → Blank c → Blank d → view_cell c ≡ view_cell d → c ≡ d

@@ -1,8 +1,8 @@
 -- The ways out of a start, of the judging and of a step, one law for each; the laws take what the callees ensure.
 -- Assumes nothing.
-use mathlib.Core.Path.{◌≡◌, sym, ap, ◌∙◌}
+use mathlib.Core.Path.{◌≡◌, refl, sym, ap, ◌∙◌}
 use mathlib.Core.Bool.{Bool, true, false, ◌&&◌}
-use mathlib.Core.List.{List, [], ◌++◌, append-nil}
+use mathlib.Core.List.{List, [], ◌∷◌, ◌++◌, append-nil}
 use Prim.Native.Nat.{ℕ, ◌+◌, ◌≤◌, ◌<◌}
 use native.Mathlib.Omega.{arith}
 use lib.ListN.{length, get_or, drop, set, length-set}
@@ -10,11 +10,14 @@ use borrow.Author.Tests.{ne_eqb}
 use Rattle.std.specs.Prelude.{Ok, Err}
 use Rattle.rules.specs.Lists.{within, If◌then◌else◌}
 use Rattle.frames.specs.declared.Item.{Item}
-use Rattle.frames.specs.declared.Head.TheVariants.{ExecNotif}
+use Rattle.frames.specs.declared.Head.{Head}
+use Rattle.frames.specs.declared.Head.TheVariants.{Bad, Submit, Forward, ShardAppend, ExecNotif, Executed, Response}
 use Rattle.frames.specs.declared.Frame.{Frame}
 use Rattle.frames.specs.Frames.{no_item, frame_bytes, read_frame, written_of, laid_of}
 use Rattle.frames.proofs.Puts.{writes, lays}
 use Rattle.shard.proofs.Fits.{FewReads, ran_few, no_reads_few, taken_room, notif_room}
+use Rattle.frames.specs.contracts.Head.{the_type}
+use Rattle.rules.specs.Answers.{not_for_me}
 use Rattle.refusal.specs.declared.Refusal.{Refusal}
 use Rattle.refusal.specs.declared.Refusal.TheVariants.{NotUsable}
 use Rattle.refusal.specs.Number.{number_of}
@@ -23,7 +26,9 @@ use Rattle.shard.specs.declared.Append.{Append}
 use Rattle.shard.specs.declared.Cell.{Cell}
 use Rattle.shard.specs.declared.Shard.{Shard}
 use Rattle.frames.specs.declared.Items.{Items}
-use Rattle.shard.specs.Model.{Stepped, Verdict, shown_start, shown_verdict, shown, empty_shard, start_of, judge, cell_at, cell_after, no_reads, noted, Running, turn, ran, exec_notif, Outcome, after, settled, items_of, outcome, stepped, laid, step_of, out_of}
+use Rattle.shard.specs.Model.{Stepped, Verdict, shown_start, shown_verdict, shown, empty_shard, start_of, refused, judge_head, judge, cell_at, cell_after, no_reads, noted, Running, turn, ran, exec_notif, Outcome, after, settled, items_of, outcome, stepped, laid, step_of, out_of}
+use denote.Enum.Declared.{tag_of}
+use types.Run.{OneOf, miss}
 use Rattle.shard.proofs.Walk.{ran_on, ran_end}
 
 -- ---- The ways out of a start
@@ -37,6 +42,27 @@ module _ (m own : ℕ) (s : Shard) (e : s ≡ empty_shard 0 0 false) (usable : B
       → shown_start (record { cells = s.cells; ssn = s.ssn; last_run = s.last_run; m = m; own = own; started = true }) (Ok tt) ≡ start_of m own
   unfolding start_of empty_shard If◌then◌else◌
   start_taken t = rw (← d, t, e)
+
+-- ---- A head that is neither Bad nor a ShardAppend is for somebody else
+
+abbrev tag : Head → ℕ
+tag h = tag_of the_type h
+
+pub others : (m own ssn last : ℕ) (xs : List Item) (h : Head) → OneOf (1 ∷ 2 ∷ 3 ∷ 4 ∷ 5 ∷ 6 ∷ []) (tag h) → OneOf (0 ∷ 1 ∷ 2 ∷ 4 ∷ 5 ∷ 6 ∷ []) (tag h)
+    → judge_head m own ssn last xs h ≡ refused not_for_me
+unfolding judge_head
+others m own ssn last xs Bad p q = absurd (miss (1 ∷ 2 ∷ 3 ∷ 4 ∷ 5 ∷ 6 ∷ []) 0 tt p)
+others m own ssn last xs (Submit client number ack) p q = refl
+others m own ssn last xs (Forward ind client number ack) p q = refl
+others m own ssn last xs (ShardAppend shard ind sn) p q = absurd (miss (0 ∷ 1 ∷ 2 ∷ 4 ∷ 5 ∷ 6 ∷ []) 3 tt q)
+others m own ssn last xs (ExecNotif shard ind) p q = refl
+others m own ssn last xs (Executed ind) p q = refl
+others m own ssn last xs (Response client number) p q = refl
+
+-- the second half of a test
+pub and_second : (a b : Bool) → a && b ≡ true → b ≡ true
+and_second true b e = e
+and_second false b e = let z : ◌≡◌ {A = ℕ} 0 1 = cc in absurd (omega arith)
 
 -- ---- The loop of a step
 

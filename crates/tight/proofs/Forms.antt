@@ -1,7 +1,7 @@
 -- Each form of promise is tight: both outcomes equal the same right-hand side, so they equal each other.
 -- Assumes nothing.
 use mathlib.Core.Path.{◌≡◌, sym, ◌∙◌}
-use Rattle.tight.specs.Promise.{Promise, Tight, ByEquation, ByShown, Both, WithLent, WithTwoLent, Also}
+use Rattle.tight.specs.Promise.{Promise, Tight, ByEquation, ByShown, Both, WithLent, ShownWithLent, WithTwoLent, Also}
 
 -- ---- The forms of the contracts
 
@@ -18,6 +18,11 @@ both s t = record { one = λ given this that p q. λ i. (s.one given this.0 that
 
 pub with_lent : {Given Result Lent : Type 0} (result : Given → Result) (lent : Given → Lent) → Tight (WithLent result lent)
 with_lent result lent = both (by_equation result) (by_equation lent)
+
+-- where what is shown tells what came, the lent record in it, and the lent area stands beside
+pub shown_with_lent : {Given Came Shown Lent : Type 0} (shown : Came → Shown) (shown-of : Given → Shown) (lent : Given → Lent)
+    → ((this that : Came) → shown this ≡ shown that → this ≡ that) → Tight (ShownWithLent shown shown-of lent)
+shown_with_lent shown shown-of lent tells = both (by_shown shown shown-of tells) (by_equation lent)
 
 pub with_two_lent : {Given Result Record Area : Type 0} (result : Given → Result) (lent : Given → Record) (out : Given → Area)
     → Tight (WithTwoLent result lent out)

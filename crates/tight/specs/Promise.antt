@@ -29,6 +29,10 @@ Both P Q given came = P given came.0 × Q given came.1
 abbrev pub WithLent : {Given Result Lent : Type 0} → (Given → Result) → (Given → Lent) → Promise Given (Result × Lent)
 WithLent result lent = Both (ByEquation result) (ByEquation lent)
 
+-- what a result and a lent record show, and a lent area, each by an equation: (shown s.new r ≡ result ..) × (out.new ≡ out ..)
+abbrev pub ShownWithLent : {Given Came Shown Lent : Type 0} → (Came → Shown) → (Given → Shown) → (Given → Lent) → Promise Given (Came × Lent)
+ShownWithLent shown shown-of lent = Both (ByShown shown shown-of) (ByEquation lent)
+
 -- the result, a lent record and a lent area, each by an equation
 abbrev pub WithTwoLent : {Given Result Record Area : Type 0} → (Given → Result) → (Given → Record) → (Given → Area) → Promise Given (Result × (Record × Area))
 WithTwoLent result lent out = Both (ByEquation result) (WithLent lent out)

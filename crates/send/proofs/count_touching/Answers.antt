@@ -1,20 +1,25 @@
--- `count_touching` meets its contract: the chain gives the masks in front that have the shard, and their number is count_in (count_is).
+-- `count_touching` meets its contract: a mask that has the shard is counted, another is passed by.
 -- Assumes nothing.
-use mathlib.Core.Path.{◌∙◌}
-use Prim.Native.Nat.{◌+◌}
+use mathlib.Core.Path.{sym, ◌∙◌}
+use native.Mathlib.Omega.{arith}
 use lib.ListN.{take}
-use Rattle.std.proofs.Common.{rules, tests}
-use Rattle.std.proofs.lemmas.Iterator.{YieldsList-from_slice, YieldsList-from_take}
-use Rattle.std.proofs.lemmas.Iterator.Consumers.{YieldsList-at, YieldsList-from_filter, count_from_yields_List}
-use Rattle.entry.specs.Model.{in_mask}
-use Rattle.send.proofs.Count.{count_is}
+use Rattle.send.proofs.Count.{counted_one, passed_by}
 use Rattle.send.proofs.count_touching.Goals as goal
+use Rattle.send.proofs.count_touching.Goals.{then-in_mask, else-in_mask}
 
-pub returns : goal.returns
-returns c =
-    let a = c.args in
-    count_from_yields_List c.filter.result c.count.result c.count.ensures.ran
-    (YieldsList-from_filter _ (λ mask. in_mask mask a.shard)
-    (YieldsList-at c.filter.ensures.source (YieldsList-from_take {s = c.take.result} (a.log_number + 1) (YieldsList-from_slice a.masks.now (cc)) (cc)))
-    c.filter.ensures.closure (λ x b q k. search (rules, tests)))
-    ∙ count_is a.shard (take (a.log_number + 1) a.masks.now)
+pub loop-mask-preserved : goal.loop-mask-preserved
+loop-mask-preserved c =
+    let l = c.loop-mask in
+    let masks = take c.min-up_to.result c.args.masks.now in
+    elim c.if-in_mask.branch [
+      | then-in_mask w ↦
+          rw w.count-is (
+            omega (arith, l.invariant.0),
+            counted_one c.args.shard masks l.mask-index 0 l.count c.loop-mask-test.true l.invariant.1 (sym c.in_mask.ensures ∙ w.if-in_mask.true),
+          )
+      | else-in_mask w ↦
+          rw w.count-is (
+            omega (arith, l.invariant.0),
+            passed_by c.args.shard masks l.mask-index 0 l.count c.loop-mask-test.true l.invariant.1 (sym c.in_mask.ensures ∙ w.if-in_mask.false),
+          )
+    ]
