@@ -54,9 +54,9 @@ impl From<Result<send::Sent, Refusal>> for Stepped {
     }
 }
 
-// What each function below does, whatever its callee is: the record is lent on, and what comes back is shown. So what the callee ensures of the record
-// that it leaves, and of what comes back, holds of the lent record. `thin` says the same of a callee that is handed the record by value: what it leaves is
-// stored back, and what stood beside it is the answer.
+// How each function below begins, whatever its callee is: the record is lent on. So what the callee ensures of the record that it leaves, and of what
+// comes back, holds of the lent record; what comes back is then shown, by `answer` or a `From`. `thin` says it of a callee that is handed the record by
+// value: what it leaves is stored back, and what stood beside it is the answer.
 // Nothing calls the two: docs/PROMISES.md names their contracts, which say this of any callee.
 fn lends<T, R, F: FnOnce(&mut T) -> R>(lent: &mut T, callee: F) -> R
     requires { F.IsAlwaysCallable callee }
