@@ -224,10 +224,11 @@ static void run(void)
     IS(session.window.slots[1].count, 0);
 }
 
-/* A start on garbage leaves what a start on zeros leaves, and nothing beside the record changes. */
+/* A start on garbage, taken or refused, leaves what one on zeros leaves, the bytes between the fields too, of which no contract speaks; and
+ * nothing beside the record changes. */
 enum { GUARD = 64 };
 
-#define ON_GARBAGE(T, start, differs)                                                                                                      \
+#define ON_GARBAGE(T, start, answer, differs)                                                                                              \
     do {                                                                                                                                   \
         static struct {                                                                                                                    \
             uint8_t before[GUARD];                                                                                                         \
@@ -236,15 +237,16 @@ enum { GUARD = 64 };
         } room;                                                                                                                            \
         static T fresh;                                                                                                                    \
         T *r = &fresh;                                                                                                                     \
-        IS(start, 0);                                                                                                                      \
+        IS(start, answer);                                                                                                                 \
         for (unsigned fill = 1; fill < 256; fill += 127) {                                                                                 \
             unsigned touched = 0;                                                                                                          \
             memset(&room, (int)fill, sizeof room);                                                                                         \
             r = &room.record;                                                                                                              \
-            IS(start, 0);                                                                                                                  \
+            IS(start, answer);                                                                                                             \
             for (size_t i = 0; i < GUARD; i++) touched += (room.before[i] != fill) + (room.behind[i] != fill);                             \
             expect("bytes touched beside a " #T, touched, 0);                                                                              \
             expect("fields of a " #T " that kept something", differs(&room.record, &fresh), 0);                                            \
+            expect("a " #T " with bytes that differ", memcmp(&room.record, &fresh, sizeof fresh) != 0, 0);                                 \
         }                                                                                                                                  \
     } while (0)
 
@@ -341,9 +343,12 @@ int main(void)
     table();
     run();
     swapped();
-    ON_GARBAGE(Session, session_start(r, 15), session_differs);
-    ON_GARBAGE(Shard, shard_start(r, 8, 7), shard_differs);
-    ON_GARBAGE(Board, board_start(r, 8, 5, 3), board_differs);
+    ON_GARBAGE(Session, session_start(r, 15), 0, session_differs);
+    ON_GARBAGE(Session, session_start(r, 16), 11, session_differs);
+    ON_GARBAGE(Shard, shard_start(r, 8, 7), 0, shard_differs);
+    ON_GARBAGE(Shard, shard_start(r, 8, 9), 11, shard_differs);
+    ON_GARBAGE(Board, board_start(r, 8, 5, 3), 0, board_differs);
+    ON_GARBAGE(Board, board_start(r, 8, 5, 9), 11, board_differs);
     printf("%u passed, %u failed\n", passed, failed);
     return failed == 0 && passed > 0 ? 0 : 1;
 }

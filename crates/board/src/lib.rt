@@ -113,31 +113,13 @@ impl Board {
         }
     }
 
-    // The same in place: `*self = Board::unstarted()` makes the board elsewhere first, so that a start takes 24,000 bytes of stack in place
-    // of 200, where include/register.h promises 1,024 at most.
-    #[tactic(auto, unfolding(crate::specs::Model::empty_board))]
-    fn clear(&mut self)
-        ensures { self.new ≡ empty_board 0 0 0 false }
-    {
-        self.log = [entry::no_entry(); 256];
-        self.len = 0;
-        self.names = [0; 256];
-        self.touched = [0; 256];
-        self.next = [0; 16];
-        self.floor = [0; 16];
-        self.queues = [queue::no_queue(); 8];
-        self.n = 0;
-        self.m = 0;
-        self.own = 0;
-        self.started = false;
-    }
-
-    // Every field is written, whatever the board held before. "A refused start hands back an empty state marked as not started."
+    // The board is written as a whole, whatever it held before: every field, and the bytes between fields too, of which no promise speaks
+    // (tests/c/layout.c). "A refused start hands back an empty state marked as not started."
     #[tactic(auto, unfolding(frames::specs::Choosing::choosing, crate::specs::Model::start_of, crate::specs::Model::empty_board))]
     pub fn start(&mut self, n: u8, m: u8, own: u8) -> Result<(), Refusal>
         ensures { started_of self.new result ≡ start_of n m own }
     {
-        self.clear();
+        *self = Board::unstarted();
         if !in_range(n, m, own) {
             return Err(Refusal::NotUsable);
         }
