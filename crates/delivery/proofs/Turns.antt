@@ -10,20 +10,21 @@ use lib.Dec.{leb→le}
 use borrow.Author.Tests.{eq-eqb, ne_eqb}
 use Rattle.rules.specs.Lists.{If◌then◌else◌, within, ◌≤?◌}
 use Rattle.rules.specs.Answers.{not_for_me}
-use Rattle.std.specs.Prelude.{Ok, Err}
+use Rattle.std.specs.Prelude.{set, OnErr, Result, Ok, Err}
 use Rattle.std.proofs.lemmas.List.{set-get_or}
 use Rattle.rules.proofs.Lists.{and_l, and_r}
 use Rattle.board.specs.declared.Board.{Board}
-use Rattle.board.specs.Model.{Stepped as BoardStepped, shown as board_shown, step_of as board_step}
+use Rattle.board.specs.Model.{Stepped as BoardStepped, step_of as board_step}
 use Rattle.shard.specs.declared.Shard.{Shard}
-use Rattle.shard.specs.Model.{Stepped as ShardStepped, shown as shard_shown, step_of as shard_step}
+use Rattle.shard.specs.Model.{Stepped as ShardStepped, step_of as shard_step}
 use Rattle.refusal.specs.declared.Refusal.{Refusal}
+use Rattle.refusal.specs.Number.{answer_of}
 use Rattle.refusal.proofs.Tells.{number_not_done}
 use Rattle.delivery.specs.declared.Register.{Register}
 use Rattle.records.specs.declared.Receiver.{Receiver}
 use Rattle.records.specs.declared.Receiver.TheVariants.{Board as to_board, Shard as to_shard, Nobody as to_nobody}
 use Rattle.records.specs.Records.{receiver_of}
-use Rattle.delivery.specs.Register.{board_turn, shard_turn, turn_at, turn_of, turned, with_board, with_shard, board_at_start, shard_at_start}
+use Rattle.delivery.specs.Register.{board_turn, shard_turn, turn_at, turn_of, turned, sent_by, with_board, with_shard, board_at_start, shard_at_start}
 
 -- within a list it does not matter what would stand past its end
 get_d_any : {A : Type 0} (l : List A) (i : ℕ) (d e : A) → i < length l → get_or l i d ≡ get_or l i e
@@ -69,28 +70,33 @@ module _ (r : Register) (address : ℕ) (frame : List ℕ) (whom : Receiver) (to
     shard_refused a = shard_turned ∙ rw (ne_eqb s.answer 0 a)
 
   -- what the code's results show of a step that is taken and of one that is refused
-  module _ (i : ℕ) (d : Board) (b : Board) (e : whom ≡ to_board i) (inside : i < length r.boards) where
-    pub board_sent : (sent : _) → board_shown b (Ok sent) ≡ board_step (get_or r.boards i d) frame 68
-        → turned (with_board r i b) (Ok sent.frames) ≡ turn_of r address frame
-    board_sent sent stepped = sym (board_taken i d (board_shown b (Ok sent)) e inside stepped refl)
+  module _ (i : ℕ) (d b : Board) (e : whom ≡ to_board i) (inside : i < length r.boards) where
+    abbrev board_gives : BoardStepped
+    board_gives = board_step (get_or r.boards i d) frame 68
 
-    pub board_kept : (refusal : Refusal) → board_shown b (Err refusal) ≡ board_step (get_or r.boards i d) frame 68 → b ≡ get_or r.boards i d
-        → turned (with_board r i b) (Err refusal) ≡ turn_of r address frame
-    board_kept refusal stepped kept =
-        ap (λ (x : Board). turned (with_board r i x) (Err refusal)) kept
-        ∙ ap (λ (x : List Board). turned (record { n = r.n; m = r.m; boards = x; shards = r.shards }) (Err refusal)) (set-get_or r.boards i d)
-        ∙ sym (board_refused i d (board_shown b (Err refusal)) e inside stepped (number_not_done refusal))
+    pub board_told : (sent : Result ℕ Refusal) → b ≡ board_gives.board → (answer_of sent ≡ board_gives.answer) × (sent_by sent ≡ board_gives.frames)
+        → OnErr sent (b ≡ get_or r.boards i d) → turned (with_board r i b) sent ≡ turn_of r address frame
+    board_told (Ok frames) stored told kept =
+        (λ j. record { register = with_board r i (stored j); answer = told.0 j; frames = told.1 j })
+        ∙ sym (board_taken i d board_gives e inside refl (sym told.0))
+    board_told (Err refusal) stored told kept =
+        let put : set r.boards i b ≡ r.boards = ap (λ (x : Board). set r.boards i x) kept ∙ set-get_or r.boards i d in
+        (λ j. record { register = record { n = r.n; m = r.m; boards = put j; shards = r.shards }; answer = told.0 j; frames = told.1 j })
+        ∙ sym (board_refused i d board_gives e inside refl (λ a. number_not_done refusal (told.0 ∙ a)))
 
-  module _ (i : ℕ) (d : Shard) (g : Shard) (e : whom ≡ to_shard i) (inside : i < length r.shards) where
-    pub shard_sent : (bytes : ℕ) → shard_shown g (Ok bytes) ≡ shard_step (get_or r.shards i d) frame 68 → turned (with_shard r i g) (Ok 1) ≡ turn_of r address frame
-    shard_sent bytes stepped = sym (shard_taken i d (shard_shown g (Ok bytes)) e inside stepped refl)
+  module _ (i : ℕ) (d g : Shard) (e : whom ≡ to_shard i) (inside : i < length r.shards) where
+    abbrev shard_gives : ShardStepped
+    shard_gives = shard_step (get_or r.shards i d) frame 68
 
-    pub shard_kept : (refusal : Refusal) → shard_shown g (Err refusal) ≡ shard_step (get_or r.shards i d) frame 68 → g ≡ get_or r.shards i d
-        → turned (with_shard r i g) (Err refusal) ≡ turn_of r address frame
-    shard_kept refusal stepped kept =
-        ap (λ (x : Shard). turned (with_shard r i x) (Err refusal)) kept
-        ∙ ap (λ (x : List Shard). turned (record { n = r.n; m = r.m; boards = r.boards; shards = x }) (Err refusal)) (set-get_or r.shards i d)
-        ∙ sym (shard_refused i d (shard_shown g (Err refusal)) e inside stepped (number_not_done refusal))
+    pub shard_told : (sent : Result ℕ Refusal) → g ≡ shard_gives.shard → (answer_of sent ≡ shard_gives.answer) × (sent_by sent ≡ shard_gives.frames)
+        → OnErr sent (g ≡ get_or r.shards i d) → turned (with_shard r i g) sent ≡ turn_of r address frame
+    shard_told (Ok frames) stored told kept =
+        (λ j. record { register = with_shard r i (stored j); answer = told.0 j; frames = told.1 j })
+        ∙ sym (shard_taken i d shard_gives e inside refl (sym told.0))
+    shard_told (Err refusal) stored told kept =
+        let put : set r.shards i g ≡ r.shards = ap (λ (x : Shard). set r.shards i x) kept ∙ set-get_or r.shards i d in
+        (λ j. record { register = record { n = r.n; m = r.m; boards = r.boards; shards = put j }; answer = told.0 j; frames = told.1 j })
+        ∙ sym (shard_refused i d shard_gives e inside refl (λ a. number_not_done refusal (told.0 ∙ a)))
 
 -- an address names one of 8 boards or of 8 shard groups
 pub board_within : (n m address i : ℕ) → receiver_of n m address ≡ to_board i → i < 8

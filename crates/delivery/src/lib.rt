@@ -4,7 +4,10 @@
 // Each function's result is determined for every input by a function of specs/.
 #![tactic(auto)]
 
-ghost use Rattle.std.specs.Prelude.{◌≡◌, ◌≤◌, length, take};
+ghost use Rattle.std.specs.Prelude.{◌≡◌, ◌≤◌, OnErr, length, take};
+ghost use Rattle.rules.specs.Outcomes.{least_out};
+ghost use Rattle.board.specs.Model.{step_of as board_step};
+ghost use Rattle.shard.specs.Model.{step_of as shard_step};
 ghost use Rattle.delivery.specs.Register.{register_of, turn_of, turned, sent_by};
 ghost use Rattle.delivery.specs.Delivery.{delivered, delivered_of, shown, standing};
 ghost use Rattle.delivery.specs.Logs.{log_lines};
@@ -56,21 +59,35 @@ impl Register {
 
 // ---- Delivery
 
-// A record's frame goes to whom its address names: how many frames that sends, or why it is refused. A refused step leaves its state as it was.
+// A board's step, on an area of the least length: how many frames it sends, or why it is refused. A refused step leaves the board as it was.
+fn step_board(b: &mut Board, frame: &[u8]) -> Result<u8, Refusal>
+    ensures stored { b.new ≡ (board_step b.old frame.now least_out).board }
+    ensures told { let t = board_step b.old frame.now least_out in (answer_of result ≡ t.answer) × (sent_by result ≡ t.frames) }
+    ensures refusal { OnErr result (b.new ≡ b.old) }
+{
+    let mut out = [0; refusal::LEAST_OUT];
+    let sent = b.step(frame, &mut out)?;
+    Ok(sent.frames)
+}
+
+// The same of a shard group: a step that is taken sends one frame. Shard::step gives the bytes alone.
+fn step_shard(s: &mut Shard, frame: &[u8]) -> Result<u8, Refusal>
+    ensures stored { s.new ≡ (shard_step s.old frame.now least_out).shard }
+    ensures told { let t = shard_step s.old frame.now least_out in (answer_of result ≡ t.answer) × (sent_by result ≡ t.frames) }
+    ensures refusal { OnErr result (s.new ≡ s.old) }
+{
+    let mut out = [0; refusal::LEAST_OUT];
+    s.step(frame, &mut out)?;
+    Ok(1)
+}
+
+// A record's frame goes to whom its address names: how many frames that sends, or why it is refused.
 fn turn(r: &mut Register, address: u8, frame: &[u8]) -> Result<u8, Refusal>
     ensures { turned r.new result ≡ turn_of r.old address frame.now }
 {
-    let mut out = [0; refusal::LEAST_OUT];
     match records::named(r.n, r.m, address) {
-        Receiver::Board(i) => {
-            let sent = r.boards[i].step(frame, &mut out)?;
-            Ok(sent.frames)
-        }
-        // A step of a shard group that is taken sends one frame. Shard::step gives the bytes alone.
-        Receiver::Shard(i) => {
-            r.shards[i].step(frame, &mut out)?;
-            Ok(1)
-        }
+        Receiver::Board(i) => step_board(&mut r.boards[i], frame),
+        Receiver::Shard(i) => step_shard(&mut r.shards[i], frame),
         Receiver::Nobody => Err(Refusal::NotForMe),
     }
 }
