@@ -193,21 +193,18 @@ fn answered(m: u8, left: u8, x: Item) -> bool
 
 // ---- Entries
 
-// No entry: what a free place of a log holds. It is the default, under the name that the promises have. Slot by slot, and not by
-// `Entry::default()`: so the compiler sees that a log of them is zeros, and a board starts by one memset where it lies. From the default it makes
-// the board elsewhere first, which takes 24,000 bytes of stack where include/register.h promises 1,024 (tests/c/stack.c).
+// No entry: what a free place of a log holds. It is the default, under the name that the promises have, with its slots written out: so the
+// compiler sees that a log of them is zeros, and a board starts by one memset where it lies. From `Entry::default()` alone it makes the board
+// elsewhere first, which takes 24,000 bytes of stack where include/register.h promises 1,024 (tests/c/stack.c).
 pub fn no_entry() -> Entry
     ensures { result ≡ no_entry }
 {
     let none = frames::no_item();
+    let slots = [none, none, none, none];
     Entry {
-        client: 0,
-        number: 0,
-        count: 0,
-        items: [none, none, none, none],
-        exe: false,
-        reads: [none, none, none, none],
-        remaining: 0,
+        items: slots,
+        reads: slots,
+        ..Entry::default()
     }
 }
 
