@@ -237,3 +237,19 @@ impl Board {
         Ok(self.sent(&change, log_number, out))
     }
 }
+
+// That the promise of `step` admits one outcome, of its contract as it stands above: two steps that begin alike end alike, by what the contract says of each
+// and nothing else. `.ci/promises` reads the form of the contract, and `step_once` (proofs/Tells.antt) has its words once more; here they are the contract's.
+// The two calls are a part of what is said. Nothing calls this: it is here for what it ensures.
+fn step_twice(
+    one: &mut Board,
+    other: &mut Board,
+    frame: &[u8],
+    out: &mut [u8],
+    area: &mut [u8],
+) -> (Result<Sent, Refusal>, Result<Sent, Refusal>)
+    requires { (one.old ≡ other.old) × (out.old ≡ area.old) }
+    ensures { (one.new ≡ other.new) × (result.0 ≡ result.1) × (out.new ≡ area.new) }
+{
+    (one.step(frame, out), other.step(frame, area))
+}
