@@ -113,7 +113,7 @@ impl Board {
         }
     }
 
-    // The board is written as a whole, whatever it held before: every field, and the bytes between fields too, of which no promise speaks
+    // The board is written as a whole, whatever it held before: every field, and the bytes between fields too, of which no contract speaks
     // (tests/c/layout.c). "A refused start hands back an empty state marked as not started."
     #[tactic(auto, unfolding(frames::specs::Choosing::choosing, crate::specs::Model::start_of, crate::specs::Model::empty_board))]
     pub fn start(&mut self, n: u8, m: u8, own: u8) -> Result<(), Refusal>

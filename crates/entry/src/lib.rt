@@ -193,9 +193,9 @@ fn answered(m: u8, left: u8, x: Item) -> bool
 
 // ---- Entries
 
-// No entry: what a free place of a log holds. It is the default, under the name that the promises have, with its slots written out: so the
-// compiler sees that a log of them is zeros, and a board starts by one memset where it lies. From `Entry::default()` alone it makes the board
-// elsewhere first, which takes 24,000 bytes of stack where include/register.h promises 1,024 (tests/c/stack.c).
+// No entry: what a free place of a log holds. It is the default, under the name that the promises have, with its slots named one by one: so the
+// compiler sees that a log of them is zeros, and a board starts by one memset where it lies. By the default alone, or with the slots as `[none; 4]`,
+// it makes the log twice on the stack first: 41,000 bytes, where include/register.h promises 1,024 at most (tests/c/stack.c finds that out).
 pub fn no_entry() -> Entry
     ensures { result ≡ no_entry }
 {
