@@ -113,8 +113,8 @@ impl Board {
         }
     }
 
-    // The board is written as a whole, whatever it held before: every field, and the bytes between fields too, of which no contract speaks
-    // (tests/c/layout.c). "A refused start hands back an empty state marked as not started."
+    // The board is written as a whole, whatever it held before: every field, and the bytes between fields too. No contract speaks of those;
+    // tests/c/layout.c compares them. "A refused start hands back an empty state marked as not started."
     #[tactic(auto, unfolding(frames::specs::Choosing::choosing, crate::specs::Model::start_of, crate::specs::Model::empty_board))]
     pub fn start(&mut self, n: u8, m: u8, own: u8) -> Result<(), Refusal>
         ensures { started_of self.new result ≡ start_of n m own }
@@ -239,8 +239,8 @@ impl Board {
 }
 
 // That the promise of `step` admits one outcome, of its contract as it stands above: two steps that begin alike end alike, by what the contract says of each
-// and nothing else. `.ci/promises` reads the form of the contract, and `step_once` (proofs/Tells.antt) has its words once more; here they are the contract's.
-// The two calls are a part of what is said. Nothing calls this: it is here for what it ensures.
+// and nothing else. `.ci/promises` reads the form of the contract, and `step_once` (proofs/Tells.antt) repeats its words by hand; here the contract itself is
+// used. Nothing calls this function: it is here for what it ensures.
 fn step_twice(
     one: &mut Board,
     other: &mut Board,
