@@ -11,8 +11,8 @@
  * leaves, and so what every later call gives, depends on its setup alone; a board with another park's log in its memory joins nothing of
  * it. Every other call asks that the record comes from a start and calls of its own kind; to hand in anything else, or to change a field,
  * voids the promises. Fields may be read. A record has no pointer in it and may be copied as a whole. A start writes the bytes between its
- * fields too, so that none of the memory shows; that is tested (tests/c/layout.c), not proved: the proofs know fields alone. What a step
- * leaves there is not even tested: compare records by their fields.
+ * fields too, and no call was seen to leave anything of the memory or the stack there; that is tested (tests/c/layout.c), not proved: the
+ * proofs know fields alone.
  *
  * Stack. A call changes the record where it lies. board_step takes about 700 bytes of stack, each other call less than 450. That is
  * measured (tests/c/stack.c), not proved: the proofs know no stack that runs out.

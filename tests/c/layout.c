@@ -1,8 +1,9 @@
 /* Does the header say how the library's records lie? Two checks:
  *   1. each record's size and alignment, and each field's offset and size, beside the table that is proved of the library's types (layout.inc, which .ci/c-tests
  *      makes of crates/register/proofs/InMemory.antt);
- *   2. the library itself: a run that gives every field of every record a value of its own, each read through the header; starts in the
- *      memory that this run used; and starts on memory full of garbage, with guards around it. */
+ *   2. the library itself: a run that gives every field of every record a value of its own, each read through the header; the same run once
+ *      more over another memory and another stack; starts in the memory that it used; and starts on memory full of garbage, with guards
+ *      around it. */
 #include <stdio.h>
 #include <string.h>
 
@@ -99,9 +100,28 @@ static Shard group;
 static Session session;
 static uint8_t out[REGISTER_OUT + 8];
 
-static Stepped at_board(Board *b, const uint8_t *frame, size_t length) { return board_step(b, frame, length, out, sizeof out); }
+/* The stack that the next call finds: through a pointer, so that it lies where that call's will. */
+static unsigned fill;
 
-static Stepped at_shard(Shard *s, const uint8_t *frame, size_t length) { return shard_step(s, frame, length, out, sizeof out); }
+static void paint(void)
+{
+    volatile uint8_t below[REGISTER_STACK];
+    for (size_t i = 0; i < sizeof below; i++) below[i] = (uint8_t)fill;
+}
+
+static void (*volatile painted)(void) = paint;
+
+static Stepped at_board(Board *b, const uint8_t *frame, size_t length)
+{
+    painted();
+    return board_step(b, frame, length, out, sizeof out);
+}
+
+static Stepped at_shard(Shard *s, const uint8_t *frame, size_t length)
+{
+    painted();
+    return shard_step(s, frame, length, out, sizeof out);
+}
 
 /* Client 9 of a chain of two boards over three shard groups. Its first orders carry keys of shard 2, so that shard 2 of 3 hears of each. */
 static void run(void)
@@ -113,9 +133,13 @@ static void run(void)
     Sent sent;
     Reply reply;
 
+    painted();
     IS(session_start(&session, 9), 0);
+    painted();
     IS(board_start(&head, 2, 3, 1), 0);
+    painted();
     IS(board_start(&tail, 2, 3, 2), 0);
+    painted();
     IS(shard_start(&group, 3, 2), 0);
     IS(session.client, 9);
     IS(session.started, 1);
@@ -130,6 +154,7 @@ static void run(void)
 
     /* number 0 goes all the way, and its answer back; number 1 goes with ack 1 */
     for (unsigned number = 0; number < 2; number++) {
+        painted();
         sent = session_invoke(&session, number == 0 ? first : second, out, sizeof out);
         IS(sent.answer, 0);
         IS(sent.number, number);
@@ -162,6 +187,7 @@ static void run(void)
         step = at_board(&head, frame, step.bytes);
         IS(step.bytes, 8);
         memcpy(answer, out, sizeof answer);
+        painted();
         reply = session_response(&session, answer, sizeof answer);
         IS(reply.answer, 0);
         IS(reply.count, 0);
@@ -202,16 +228,20 @@ static void run(void)
     IS(tail.log[1].remaining, 0);
 
     /* a repeat of the answer is refused, a short out area too; then number 1's answer is taken */
+    painted();
     reply = session_response(&session, answer, sizeof answer);
     IS(reply.answer, 7);
+    painted();
     sent = session_retry(&session, 1, out, REGISTER_OUT - 1);
     IS(sent.answer, 11);
     IS(sent.number, 0);
+    painted();
     sent = session_retry(&session, 1, out, REGISTER_OUT);
     IS(sent.answer, 0);
     IS(sent.number, 1);
     IS(sent.bytes, 34);
     static const uint8_t response[] = {18, 0, 6, 0, 9, 1, 0, 2, 1, 1, 113, 17, 1, 0, 3, 1, 114, 17, 1, 0};
+    painted();
     reply = session_response(&session, response, sizeof response);
     IS(reply.answer, 0);
     IS(reply.number, 1);
@@ -224,8 +254,33 @@ static void run(void)
     IS(session.window.slots[1].count, 0);
 }
 
-/* A start on garbage, taken or refused, leaves what one on zeros leaves, the bytes between the fields too, of which no contract speaks; and
- * nothing beside the record changes. */
+/* The same run over another memory and another stack leaves the same bytes in every record, also between the fields, of which no contract speaks. */
+static void run_twice(void)
+{
+    static Board heads[2], tails[2];
+    static Shard groups[2];
+    static Session sessions[2];
+
+    for (unsigned i = 0; i < 2; i++) {
+        fill = i == 0 ? 0x77 : 0x88;
+        memset(&head, (int)fill, sizeof head);
+        memset(&tail, (int)fill, sizeof tail);
+        memset(&group, (int)fill, sizeof group);
+        memset(&session, (int)fill, sizeof session);
+        run();
+        memcpy(&heads[i], &head, sizeof head);
+        memcpy(&tails[i], &tail, sizeof tail);
+        memcpy(&groups[i], &group, sizeof group);
+        memcpy(&sessions[i], &session, sizeof session);
+    }
+    IS(memcmp(&heads[0], &heads[1], sizeof head) != 0, 0);
+    IS(memcmp(&tails[0], &tails[1], sizeof tail) != 0, 0);
+    IS(memcmp(&groups[0], &groups[1], sizeof group) != 0, 0);
+    IS(memcmp(&sessions[0], &sessions[1], sizeof session) != 0, 0);
+}
+
+/* A start on garbage, taken or refused, leaves what one on zeros leaves, the bytes between the fields too; and nothing beside the record
+ * changes. */
 enum { GUARD = 64 };
 
 #define ON_GARBAGE(T, start, answer, differs)                                                                                              \
@@ -238,10 +293,11 @@ enum { GUARD = 64 };
         static T fresh;                                                                                                                    \
         T *r = &fresh;                                                                                                                     \
         IS(start, answer);                                                                                                                 \
-        for (unsigned fill = 1; fill < 256; fill += 127) {                                                                                 \
+        for (fill = 1; fill < 256; fill += 127) {                                                                                          \
             unsigned touched = 0;                                                                                                          \
             memset(&room, (int)fill, sizeof room);                                                                                         \
             r = &room.record;                                                                                                              \
+            painted();                                                                                                                     \
             IS(start, answer);                                                                                                             \
             for (size_t i = 0; i < GUARD; i++) touched += (room.before[i] != fill) + (room.behind[i] != fill);                             \
             expect("bytes touched beside a " #T, touched, 0);                                                                              \
@@ -341,7 +397,7 @@ static void swapped(void)
 int main(void)
 {
     table();
-    run();
+    run_twice();
     swapped();
     ON_GARBAGE(Session, session_start(r, 15), 0, session_differs);
     ON_GARBAGE(Session, session_start(r, 16), 11, session_differs);
